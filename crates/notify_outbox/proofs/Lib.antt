@@ -1,5 +1,6 @@
 mod DeliverLemmas
 mod NoticeLemmas
+mod OrderLemmas
 mod ReadLemmas
 mod RoomLemmas
 mod RoundLemmas

@@ -51,7 +51,7 @@ pub record Parted (H : List Event) (place : ℕ) : Type 0 where
   pub at : place ≡ length before + 1
   pub told : is_some (facts_of before event.kind) ≡ true
 
-then_some : {A B : Type 0} → (f : A → Option B) (x : Option A) (y : B) → option_and_then f x ≡ Some y
+pub then_some : {A B : Type 0} → (f : A → Option B) (x : Option A) (y : B) → option_and_then f x ≡ Some y
     → (a : A) × (x ≡ Some a) × (f a ≡ Some y)
 then_some f None y e = cc
 then_some f (Some a) y e = (a, refl, e)
@@ -74,7 +74,7 @@ passes_there p None e = cc
 passes_there p (Some a) e = refl
 
 -- an event whose notice has this place makes one, and has that place
-its_place : (m s : ℕ) (H : List Event) (k : EventKind) (p : ℕ) → notice_in m s H k ≡ Some p
+pub its_place : (m s : ℕ) (H : List Event) (k : EventKind) (p : ℕ) → notice_in m s H k ≡ Some p
     → (p ≡ length H + 1) × (is_some (facts_of H k) ≡ true)
 its_place m s H k p e =
     let found = then_some (λ (sub : Subscription). when (is_noticed m H k sub) (length H + 1)) (subscription H s) p e in
@@ -100,7 +100,7 @@ parted_step m s e H place (Some p) is rest (inl same) =
     record { later = []; event = e; before = H; is = refl; at = sym same ∙ its.0; told = its.1 }
 
 -- the history is parted at the place of each notice
-parted : (m s : ℕ) (H : List Event) (place : ℕ) → IsIn place (notices m H s) → Parted H place
+pub parted : (m s : ℕ) (H : List Event) (place : ℕ) → IsIn place (notices m H s) → Parted H place
 parted m s [] place h = absurd h
 parted m s (e ∷ H) place h = parted_step m s e H place (notice_in m s H e.kind) refl (λ g. parted m s H place g) h
 
@@ -325,7 +325,7 @@ callback_of H s r found =
     let mine = mapped (subscription_row H) (subscription H s) r live.1 in
     ap (option_map (λ (x : Subscription). x.callback)) mine.1 ∙ ap (λ (x : SubscriptionRow). Some x.callback) mine.2
 
-events_stay : (more H : List Event) (n : ℕ) → 1 ≤ n → n ≤ length H → event_in (more ++ H) n ≡ event_in H n
+pub events_stay : (more H : List Event) (n : ℕ) → 1 ≤ n → n ≤ length H → event_in (more ++ H) n ≡ event_in H n
 events_stay [] H n some within = refl
 events_stay (x ∷ more) H n some within =
     event_stays x (more ++ H) n some (omega (arith, within, length-append more H)) ∙ events_stay more H n some within

@@ -1,23 +1,19 @@
 -- Reading an event back is work that leaves the history and the jobs.
-use Rattle.std.proofs.Common.{◌≡◌, ◌<◌, ◌∙◌, ℕ, List, true, true≢false}
-use Rattle.std.proofs.Common.{Some, Result, Ok, Err, refl, ap, sym, subst, length}
-use Rattle.std.specs.List.{All}
+use Rattle.std.proofs.Common.{◌≡◌, ◌∙◌, ℕ, List, true, true≢false}
+use Rattle.std.proofs.Common.{Some, Result, Ok, Err, refl, sym, subst}
 use Rattle.std.specs.Prelude.{IfOk}
 use Rattle.executor.specs.History.{HasHistory}
-use Rattle.executor.specs.Laws.{HasOneHistory}
 use Rattle.executor.specs.Managed.{IsReady, Keeps, KeepsOn, Managed, StandsFor}
 use Rattle.executor.specs.Reading.{ReadsEvent}
-use Rattle.executor.specs.Work.{Extends, HasSome, Stays, Works, WorksAtFile, broke, went}
+use Rattle.executor.specs.Work.{Extends, HasSome, Works, WorksAtFile, broke, went}
 use Rattle.executor.specs.declared.manager.ReadFault.{ReadFault}
 use Rattle.executor.specs.declared.manager.ReadFault.TheVariants as reading
 use Rattle.executor.proofs.WorkLemmas.{extends_back, extends_refl, kept_sound, some_everywhere}
-use Rattle.journal_core.specs.Marks.{IsMark}
-use Rattle.journal_records.specs.File.{HasRecords, records, size}
 use Rattle.lcm_events.specs.declared.events.Event.{Event}
 use Rattle.lcm_jobs.specs.Sound.{IsSound}
 use Rattle.notify_outbox.specs.Dispatches.{body_at}
 use Rattle.notify_outbox.specs.Faults.{delivery_fault}
-use Rattle.notify_outbox.specs.Reading.{IsLeft, ReadsBody}
+use Rattle.notify_outbox.specs.Reading.{ReadsBody}
 use Rattle.notify_outbox.specs.declared.faults.DeliveryFault.{DeliveryFault}
 use Rattle.notify_outbox.specs.declared.faults.DeliveryFault.TheVariants as fault
 use Rattle.site_traits.specs.Moments as moments

@@ -10,5 +10,5 @@ mod rounds;
 
 pub use delivering::deliver;
 pub use faults::{Delivery, DeliveryFault};
-pub use laws::notices_stay;
+pub use laws::{notices_go_in_order, notices_stay, notices_tell_of_what_stands};
 pub use rounds::{Deliveries, deliver_all};

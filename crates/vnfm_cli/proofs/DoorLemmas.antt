@@ -14,16 +14,19 @@ use Rattle.lcm_sessions.specs.Doing.{Brings, BringsNothing, OnboardingAtDoor}
 use Rattle.lcm_sessions.specs.Onboarding.{Ended, done, starving as lacking, breaking, Onboarding, unready, unheard, cut_off, heard}
 use Rattle.lcm_sessions.specs.Onboarding.{judged_answer}
 use Rattle.lcm_sessions.specs.Verdict.{Verdict, refused, full as no_room, accepted, verdict}
+use Rattle.notify_outbox.specs.Dispatches.{Dispatch}
+use Rattle.notify_outbox.specs.Rounds as outbox
+use Rattle.notify_outbox.specs.Rounds.{RoundEnd}
 use Rattle.site_traits.specs.Counts.{one_more}
 use Rattle.site_traits.specs.Door.{DoorCounts, call_failed, closed, next_failed, opened as has_come}
 use Rattle.command_line.specs.declared.options.Command.TheVariants.{Onboard, Once}
 use Rattle.vnfm_cli.specs.Causes.{FailsAtDoor}
 use Rattle.vnfm_commands.specs.Course.{Course, misused, starved, making, unopened, opened, Opening, serving, onboarding, Visit, unasked}
-use Rattle.vnfm_commands.specs.Course.{served, Round, Close, finished, unreached, stopped, halted, full, starving, broken, IsOfWords}
-use Rattle.vnfm_commands.specs.Course.{close_ending, ending_of, once_made, onboarding_ending}
+use Rattle.vnfm_commands.specs.Course.{served, Turning, Round, Close, finished, unreached, stopped, halted, undelivered, full}
+use Rattle.vnfm_commands.specs.Course.{starving, broken, bad, IsOfWords, close_ending, ending_of, once_made, onboarding_ending}
 use Rattle.vnfm_cli.specs.DoorFaults.{CountsFaults, CountsOnboarding, close_counts, rounds_counts, talk_counts, visit_counts}
 use Rattle.vnfm_commands.specs.Outside.{Beside, Tells, session_peers, session_tells}
-use Rattle.vnfm_commands.specs.Rounds.{CloseDoes, Receives, RoundsDo, Visits}
+use Rattle.vnfm_commands.specs.Rounds.{CloseDoes, Receives, RoundGoes, RoundsDo, Visits}
 use Rattle.vnfm_commands.specs.Runs.{CourseDoes}
 use Rattle.vnfm_commands.specs.Words.{AreWordsOf}
 use Rattle.vnfm_commands.specs.declared.ending.Failure.TheVariants.{DoorFault as DoorFailure}
@@ -38,13 +41,18 @@ visit_counted : (t : WorldTells) (m : ℕ) (H : List Event) (visit : Visit) (a b
 visit_counted t m H unasked a b does = does.counts
 visit_counted t m H (served came talk) a b does = receives_counted t m H came talk a b does.0
 
+-- of a round it is the visit alone that the door sees
+goes_counted : (t : Tells) (m : ℕ) (H : List Event) (visit : Visit) (turn : Turning) (ps : List Dispatch) (end : RoundEnd) (a b : Beside)
+    → RoundGoes t m H visit turn ps end a b → b.mouth.wire.intake.counts ≡ visit_counts visit a.mouth.wire.intake.counts
+goes_counted t m H visit turn ps end a b goes =
+    ap (λ (x : MouthState). x.wire.intake.counts) (goes.posts.mouth ∙ goes.turns.mouth)
+    ∙ visit_counted (session_tells t) m H visit (session_peers a) (session_peers goes.met) goes.visits.visits
+
 rounds_counted : (t : Tells) (m : ℕ) (H : List Event) (rounds : List Round) (a b : Beside) → RoundsDo t m H rounds a b
     → b.mouth.wire.intake.counts ≡ rounds_counts rounds a.mouth.wire.intake.counts
 rounds_counted t m H [] a b did = ap (λ (p : Beside). p.mouth.wire.intake.counts) did
 rounds_counted t m H (r ∷ before) a c did =
-    let last = did.2 in
-    ap (λ (x : MouthState). x.wire.intake.counts) last.2.mouth
-    ∙ visit_counted (session_tells t) m (life (once_made m) H before) r.visit (session_peers did.0) (session_peers last.0) last.1.visits
+    goes_counted t m (life (once_made m) H before) r.visit r.turn r.dispatches outbox.through did.0 c did.2
     ∙ ap (visit_counts r.visit) (rounds_counted t m H before a did.0 did.1)
 
 close_counted : (t : Tells) (m : ℕ) (H : List Event) (close : Close) (a b : Beside) → CloseDoes t m H close a b
@@ -56,6 +64,7 @@ close_counted t m H (stopped came talk) a b does = receives_counted (session_tel
 close_counted t m H (halted visit turn end why) a b does =
     ap (λ (x : MouthState). x.wire.intake.counts) does.2.mouth ∙ visit_counted (session_tells t) m H visit (session_peers a)
     (session_peers does.0) does.1.visits
+close_counted t m H (undelivered visit turn ps end why) a b does = goes_counted t m H visit turn ps end a b does.0
 
 -- what came of onboarding
 brought_counts : (tells : Type 0) (bytes : List ℕ) (failed : Bool) (a b : MouthState) → Brings tells bytes failed a b
@@ -152,6 +161,11 @@ serving_fails words n close a b c once same is = by close (ap (λ (k : DoorCount
     by (halted visit turn end (full e more)) next = stays _ (λ p. cc p) (next ∙ visit_next visit c)
     by (halted visit turn end starving) next = stays _ (λ p. cc p) (next ∙ visit_next visit c)
     by (halted visit turn end broken) next = stays _ (λ p. cc p) (next ∙ visit_next visit c)
+    by (halted visit turn end (bad n)) next = stays _ (λ p. cc p) (next ∙ visit_next visit c)
+    by (undelivered visit turn ps end (full e more)) next = stays _ (λ p. cc p) (next ∙ visit_next visit c)
+    by (undelivered visit turn ps end starving) next = stays _ (λ p. cc p) (next ∙ visit_next visit c)
+    by (undelivered visit turn ps end broken) next = stays _ (λ p. cc p) (next ∙ visit_next visit c)
+    by (undelivered visit turn ps end (bad n)) next = stays _ (λ p. cc p) (next ∙ visit_next visit c)
 
 -- no verdict is a fault of the door
 never_door : (v : Verdict) (ended : Ended) → onboarding_ending (judged_answer v ended) ≡ Err DoorFailure → ⊥

@@ -1,8 +1,11 @@
 -- Which endings the bytes of the file allow.
-use Rattle.std.proofs.Common.{◌≡◌, ◌⊎◌, ◌==◌, ℕ, List, Some, None, Result, Ok, Err, ap, subst, refl, inl, inr, ⊎_elim, sym, ◌∙◌, arith}
+use Rattle.std.proofs.Common.{◌≡◌, ◌⊎◌, ◌==◌, ℕ, List, Some, None, Result, Ok, Err, ap, subst, refl, inl, inr, length, ⊎_elim, sym, ◌∙◌}
+use Rattle.std.proofs.Common.{arith}
 use Rattle.std.proofs.lemmas.Bool.{false≢true}
 use Rattle.executor.specs.Laws.{HasNoBadRecord}
 use Rattle.executor.specs.Open.{IsBadRecord}
+use Rattle.executor.specs.declared.manager.WorkFault.{WorkFault}
+use Rattle.executor.specs.declared.manager.WorkFault.TheVariants as working
 use Rattle.executor.specs.declared.manager.OpenFault.{OpenFault}
 use Rattle.executor.specs.declared.manager.OpenFault.TheVariants as opening
 use Rattle.journal_records.specs.File.{HasRecords}
@@ -11,16 +14,28 @@ use Rattle.journal_core.specs.Exclusion.{IsHeadedOrNot, IsWholeOrForeign, IsWhol
 use Rattle.lcm_sessions.specs.Onboarding.{unready, unheard, cut_off, heard, done, starving as no_memory, breaking, verdict_answer}
 use Rattle.lcm_sessions.specs.Verdict.{Verdict, refused, full as no_room, accepted, verdict}
 use Rattle.lcm_events.specs.declared.events.Event.{Event}
+use Rattle.lcm_sessions.specs.Session.{life}
+use Rattle.notify_outbox.specs.Delivering.{Course as Delivering, IsCourse, held, idle, sent}
+use Rattle.notify_outbox.specs.Lent.{Carrier}
+use Rattle.notify_outbox.specs.Rounds as outbox
+use Rattle.notify_outbox.specs.Rounds.{RoundEnd}
+use Rattle.notify_outbox.specs.declared.faults.DeliveryFault.{DeliveryFault}
+use Rattle.notify_outbox.specs.declared.faults.DeliveryFault.TheVariants as delivering
+use Rattle.occ_work.specs.Turns.{TurnEnd, through, stopped as by}
 use Rattle.site_traits.specs.Counts.{one_more}
 use Rattle.site_traits.specs.Door.{DoorCounts}
 use Rattle.site_traits.specs.Site.{SiteState}
 use Rattle.vnfm_cli.specs.Causes.{FailsAtDoor}
 use Rattle.vnfm_cli.proofs.EndingLemmas.{Where}
 use Rattle.vnfm_commands.specs.Course.{Course, misused, starved, making, unopened, opened, Close, finished, unreached, stopped, halted}
-use Rattle.vnfm_commands.specs.Course.{full, starving, broken, serving, onboarding, close_ending, ending_of, onboarding_ending}
+use Rattle.vnfm_commands.specs.Course.{undelivered, full, starving, broken, bad as amiss, serving, onboarding, close_ending, ending_of, halt_of}
+use Rattle.vnfm_commands.specs.Course.{moment_of, once_acted, once_made, once_posted, onboarding_ending, undelivered_by}
 use Rattle.vnfm_commands.specs.Course.{unopened_failure, IsOf, IsOfSettings, IsOfWords}
 use Rattle.vnfm_commands.specs.Ending.{failure_status, status_of}
-use Rattle.vnfm_commands.specs.Runs.{AtFile, IsDoorCause, IsLegalCourse, IsNoJournal, IsOrYields, IsSoundStart, IsStartOf, MayEndWith}
+use Rattle.vnfm_commands.specs.Outside.{Beside, Tells, posting_tells}
+use Rattle.vnfm_commands.specs.Rounds.{CloseDoes, FailsBy, StopsBy}
+use Rattle.vnfm_commands.specs.Runs.{AtFile, CourseDoes, IsDoorCause, IsLegalCourse, IsNoJournal, IsOrYields, IsSoundStart, IsStartOf}
+use Rattle.vnfm_commands.specs.Runs.{MayEndWith}
 use Rattle.journal_core.specs.Create.{IsMade}
 use Rattle.journal_core.specs.Header.{IsUnfinished}
 use Rattle.journal_core.specs.declared.create.CreateFault.{CreateFault}
@@ -30,7 +45,7 @@ use Rattle.vnfm_commands.specs.Words.{AreInit, AreLoading, AreWordsOf, loads}
 use Rattle.command_line.specs.declared.options.Command.{Command}
 use Rattle.command_line.specs.declared.options.Command.TheVariants.{Init, Onboard, Once}
 use Rattle.command_line.specs.declared.options.Settings.{Settings}
-use Rattle.vnfm_commands.specs.declared.ending.Failure.TheVariants.{SiteFault, DoorFault}
+use Rattle.vnfm_commands.specs.declared.ending.Failure.TheVariants.{SiteFault, DoorFault, BadRecord}
 use Rattle.vnfm_commands.proofs.DiskLemmas.{one_fault}
 
 -- words set one thing
@@ -78,48 +93,121 @@ IsTold tells words a n =
     × Where (n == 10) (AreWordsOf Onboard words)
     × Where (n == 11) (tells → (m : ℕ) × AreInit m words × (IsUnfinished m a.image → ⊥))
 
+-- where the site tells no record that is read back is bad
+module _ (t : Tells) (m : ℕ) where
+  -- an act reads nothing back
+  never_bad_act : (why : WorkFault) (n : ℕ) → halt_of why ≡ Some (amiss n) → ⊥
+  never_bad_act (working.Full end more) n is = cc is
+  never_bad_act working.Memory n is = cc is
+  never_bad_act working.Disk n is = cc is
+  never_bad_act (working.TooLong k) n is = cc is
+
+  never_bad_turn : (end : TurnEnd) (n : ℕ) → FailsBy end (amiss n) → ⊥
+  never_bad_turn through n fails = fails
+  never_bad_turn (by d cause) n fails = never_bad_act cause n fails
+
+  -- which fault of a delivery a bad record is
+  bad_record_is : (cause : DeliveryFault) (n : ℕ) → amiss n ≡ undelivered_by cause → cause ≡ delivering.BadRecord n
+  bad_record_is (delivering.BadRecord k) n is = cc is
+  bad_record_is (delivering.Full end more) n is = absurd (cc is)
+  bad_record_is delivering.Memory n is = absurd (cc is)
+  bad_record_is delivering.Disk n is = absurd (cc is)
+
+  never_bad_course : (H : List Event) (s : ℕ) (c : Delivering) (n : ℕ) → t.site
+      → IsCourse (posting_tells t) m H s c (Err (delivering.BadRecord n)) → ⊥
+  never_bad_course H s idle n told course = course
+  never_bad_course H s (held place) n told course = course.1.1 told
+  never_bad_course H s (sent p) n told course = course
+
+  never_bad_posts : (now : ℕ) (H : List Event) (end : RoundEnd) (n : ℕ) (a b : Carrier) → t.site → StopsBy end (amiss n)
+      → outbox.EndDoes (posting_tells t) m now H end a b → ⊥
+  never_bad_posts now H outbox.through n a b told stops does = stops
+  never_bad_posts now H (outbox.stopped s c cause) n a b told stops does =
+      let P : DeliveryFault → Type 0 = λ why. IsCourse (posting_tells t) m H s c (Err why) in
+      never_bad_course H s c n told (subst P (bad_record_is cause n stops) does.0)
+
+  -- so rounds end with no bad record
+  never_bad : (H : List Event) (close : Close) (n rounds : ℕ) (a b : Beside) → t.site → CloseDoes t m H close a b
+      → close_ending rounds close ≡ Err (BadRecord n) → ⊥
+  never_bad H finished n rounds a b told does is = cc is
+  never_bad H unreached n rounds a b told does is = cc is
+  never_bad H (stopped came talk) n rounds a b told does is = cc is
+  never_bad H (halted visit turn end (full e more)) n rounds a b told does is = cc is
+  never_bad H (halted visit turn end starving) n rounds a b told does is = cc is
+  never_bad H (halted visit turn end broken) n rounds a b told does is = cc is
+  never_bad H (halted visit turn end (amiss k)) n rounds a b told does is = never_bad_turn end k does.3
+  never_bad H (undelivered visit turn ps end (full e more)) n rounds a b told does is = cc is
+  never_bad H (undelivered visit turn ps end starving) n rounds a b told does is = cc is
+  never_bad H (undelivered visit turn ps end broken) n rounds a b told does is = cc is
+  never_bad H (undelivered visit turn ps end (amiss k)) n rounds a b told does is =
+      never_bad_posts (moment_of turn) (once_posted turn (once_acted m H visit turn) ps) end k does.0.posts.between b.courier told
+      does.1 does.0.posts.end_does
+
+-- rounds that this course made ended with no bad record, where the site tells
+abbrev pub EndsGood : Type 0 → Course → Type 0
+EndsGood tells (opened start (serving service)) =
+    (n : ℕ) → tells → ending_of (opened start (serving service)) ≡ Err (BadRecord n) → ⊥
+EndsGood tells other = Unit {0}
+
+pub ends_good : (t : Tells) (course : Course) (a b : Beside) → CourseDoes t course a b → EndsGood t.site course
+ends_good t misused a b does = tt
+ends_good t starved a b does = tt
+ends_good t (making number result) a b does = tt
+ends_good t (unopened why) a b does = tt
+ends_good t (opened start (onboarding o)) a b does = tt
+ends_good t (opened start (serving service)) a b does = λ n told is.
+    never_bad t start.number (life (once_made start.number) start.history service.rounds) service.close n (length service.rounds)
+    does.2.between b told does.2.close is
+
 -- so it tells, by the way that the run went
 module _ (tells : Type 0) (words : List (List ℕ)) (a b : SiteState) where
-  closed_so : AreWordsOf Once words → (rounds : ℕ) (close : Close) → IsTold tells words a (status_of (close_ending rounds close))
-  closed_so once rounds finished = (tt, tt, tt, tt, tt)
-  closed_so once rounds unreached = (tt, tt, tt, tt, tt)
-  closed_so once rounds (stopped came talk) = (tt, tt, tt, tt, tt)
-  closed_so once rounds (halted visit turn end (full e more)) = (tt, tt, inr once, tt, tt)
-  closed_so once rounds (halted visit turn end starving) = (tt, tt, tt, tt, tt)
-  closed_so once rounds (halted visit turn end broken) = (tt, tt, tt, tt, tt)
+  closed_so : AreWordsOf Once words → (rounds : ℕ) (close : Close)
+      → ((n : ℕ) → tells → close_ending rounds close ≡ Err (BadRecord n) → ⊥)
+      → IsTold tells words a (status_of (close_ending rounds close))
+  closed_so once rounds finished never = (tt, tt, tt, tt, tt)
+  closed_so once rounds unreached never = (tt, tt, tt, tt, tt)
+  closed_so once rounds (stopped came talk) never = (tt, tt, tt, tt, tt)
+  closed_so once rounds (halted visit turn end (full e more)) never = (tt, tt, inr once, tt, tt)
+  closed_so once rounds (halted visit turn end starving) never = (tt, tt, tt, tt, tt)
+  closed_so once rounds (halted visit turn end broken) never = (tt, tt, tt, tt, tt)
+  closed_so once rounds (halted visit turn end (amiss n)) never = (tt, (λ told. absurd (never n told refl)), tt, tt, tt)
+  closed_so once rounds (undelivered visit turn ps end (full e more)) never = (tt, tt, inr once, tt, tt)
+  closed_so once rounds (undelivered visit turn ps end starving) never = (tt, tt, tt, tt, tt)
+  closed_so once rounds (undelivered visit turn ps end broken) never = (tt, tt, tt, tt, tt)
+  closed_so once rounds (undelivered visit turn ps end (amiss n)) never = (tt, (λ told. absurd (never n told refl)), tt, tt, tt)
 
   judged_so : AreWordsOf Onboard words → (v : Verdict) → IsTold tells words a (status_of (onboarding_ending (verdict_answer v)))
   judged_so on (refused why) = (tt, tt, tt, on, tt)
   judged_so on (no_room end more) = (tt, tt, inl on, tt, tt)
   judged_so on (accepted vnfd) = (tt, tt, tt, tt, tt)
 
-  pub told_so : (course : Course) → IsOfWords words course → (tells → AtFile course a b)
+  pub told_so : (course : Course) → IsOfWords words course → (tells → AtFile course a b) → EndsGood tells course
       → IsTold tells words a (status_of (ending_of course))
-  told_so misused of at = (tt, tt, tt, tt, tt)
-  told_so starved of at = (tt, tt, tt, tt, tt)
-  told_so (making number (Ok u)) of at = (tt, tt, tt, tt, tt)
-  told_so (making number (Err creating.Taken)) of at = (
+  told_so misused of at good = (tt, tt, tt, tt, tt)
+  told_so starved of at good = (tt, tt, tt, tt, tt)
+  told_so (making number (Ok u)) of at good = (tt, tt, tt, tt, tt)
+  told_so (making number (Err creating.Taken)) of at good = (
     tt,
     tt,
     tt,
     tt,
     λ told. (number, init_words words number (Err creating.Taken) of, (at told).taken refl),
   )
-  told_so (making number (Err creating.Disk)) of at = (tt, tt, tt, tt, tt)
-  told_so (unopened opening.Unmade) of at = ((λ told. inl (at told).because), tt, tt, tt, tt)
-  told_so (unopened (opening.Foreign place)) of at = ((λ told. inr (place, (at told).because)), tt, tt, tt, tt)
-  told_so (unopened (opening.BadRecord n)) of at = (tt, (λ told. (n, (at told).because)), tt, tt, tt)
-  told_so (unopened opening.Disk) of at = (tt, tt, tt, tt, tt)
-  told_so (unopened opening.Memory) of at = (tt, tt, tt, tt, tt)
-  told_so (opened start (serving service)) of at = closed_so (record { settings = of.settings; set = of.set; is = of.is.command }) _
-      service.close
-  told_so (opened start (onboarding unready)) of at = (tt, tt, tt, tt, tt)
-  told_so (opened start (onboarding unheard)) of at = (tt, tt, tt, tt, tt)
-  told_so (opened start (onboarding (cut_off bytes))) of at = (tt, tt, tt, tt, tt)
-  told_so (opened start (onboarding (heard bytes now done))) of at =
+  told_so (making number (Err creating.Disk)) of at good = (tt, tt, tt, tt, tt)
+  told_so (unopened opening.Unmade) of at good = ((λ told. inl (at told).because), tt, tt, tt, tt)
+  told_so (unopened (opening.Foreign place)) of at good = ((λ told. inr (place, (at told).because)), tt, tt, tt, tt)
+  told_so (unopened (opening.BadRecord n)) of at good = (tt, (λ told. (n, (at told).because)), tt, tt, tt)
+  told_so (unopened opening.Disk) of at good = (tt, tt, tt, tt, tt)
+  told_so (unopened opening.Memory) of at good = (tt, tt, tt, tt, tt)
+  told_so (opened start (serving service)) of at good = closed_so (record { settings = of.settings; set = of.set; is = of.is.command }) _
+      service.close good
+  told_so (opened start (onboarding unready)) of at good = (tt, tt, tt, tt, tt)
+  told_so (opened start (onboarding unheard)) of at good = (tt, tt, tt, tt, tt)
+  told_so (opened start (onboarding (cut_off bytes))) of at good = (tt, tt, tt, tt, tt)
+  told_so (opened start (onboarding (heard bytes now done))) of at good =
       judged_so (record { settings = of.settings; set = of.set; is = of.is }) (verdict start.history now bytes)
-  told_so (opened start (onboarding (heard bytes now breaking))) of at = (tt, tt, tt, tt, tt)
-  told_so (opened start (onboarding (heard bytes now no_memory))) of at = (tt, tt, tt, tt, tt)
+  told_so (opened start (onboarding (heard bytes now breaking))) of at good = (tt, tt, tt, tt, tt)
+  told_so (opened start (onboarding (heard bytes now no_memory))) of at good = (tt, tt, tt, tt, tt)
 
 -- the course of words of a command is one of settings of that command
 of_command : (command : Command) (words : List (List ℕ)) (course : Course) → AreWordsOf command words → IsOfSettings words course
@@ -189,15 +277,21 @@ complete_init (opened start (serving service)) words a b are of disk = let it =
 complete_init (opened start (onboarding o)) words a b are of disk = let it = of_command Init words (opened start (onboarding o)) are of in
     never_served _ it.0 Init Onboard it.1 it.2 (λ wrong. cc)
 
--- rounds do their work, or find the journal full or no memory, unless the disk or the door failed
+-- rounds do their work, or find the journal full or no memory, unless the disk or the door failed or a record is bad
 rounds_done : (rounds : ℕ) (close : Close) → (close_ending rounds close ≡ Err SiteFault → ⊥)
-    → (close_ending rounds close ≡ Err DoorFault → ⊥) → MayEndWith Once (status_of (close_ending rounds close))
-rounds_done rounds finished disk door = inl refl
-rounds_done rounds unreached disk door = absurd (door refl)
-rounds_done rounds (stopped came talk) disk door = absurd (disk refl)
-rounds_done rounds (halted visit turn end (full e more)) disk door = inr (inr refl)
-rounds_done rounds (halted visit turn end starving) disk door = inr (inl refl)
-rounds_done rounds (halted visit turn end broken) disk door = absurd (disk refl)
+    → (close_ending rounds close ≡ Err DoorFault → ⊥) → ((n : ℕ) → close_ending rounds close ≡ Err (BadRecord n) → ⊥)
+    → MayEndWith Once (status_of (close_ending rounds close))
+rounds_done rounds finished disk door good = inl refl
+rounds_done rounds unreached disk door good = absurd (door refl)
+rounds_done rounds (stopped came talk) disk door good = absurd (disk refl)
+rounds_done rounds (halted visit turn end (full e more)) disk door good = inr (inr refl)
+rounds_done rounds (halted visit turn end starving) disk door good = inr (inl refl)
+rounds_done rounds (halted visit turn end broken) disk door good = absurd (disk refl)
+rounds_done rounds (halted visit turn end (amiss n)) disk door good = absurd (good n refl)
+rounds_done rounds (undelivered visit turn ps end (full e more)) disk door good = inr (inr refl)
+rounds_done rounds (undelivered visit turn ps end starving) disk door good = inr (inl refl)
+rounds_done rounds (undelivered visit turn ps end broken) disk door good = absurd (disk refl)
+rounds_done rounds (undelivered visit turn ps end (amiss n)) disk door good = absurd (good n refl)
 
 -- the words of two commands are words of one
 same_command : (words : List (List ℕ)) (c d : Command) → AreWordsOf c words → AreWordsOf d words → c ≡ d
@@ -296,26 +390,30 @@ module _ (whole_unmade : IsWholeOrUnmade) (whole_foreign : IsWholeOrForeign) (he
   complete_onboard (opened start (onboarding (heard bytes now no_memory))) words a b m H are sound of at disk door = inr (inl refl)
 
   -- `once` ends with 0, 6 or 9 from a sound start, unless the disk or the door failed
-  complete_once : (course : Course) (words : List (List ℕ)) (a b : SiteState) (m : ℕ) (H : List Event) → AreWordsOf Once words
+  complete_once : (tells : Type 0) → tells → (course : Course) (words : List (List ℕ)) (a b : SiteState) (m : ℕ) (H : List Event)
+      → AreWordsOf Once words
       → IsSoundStart m H a → IsOfWords words course
       → AtFile course a b → (ending_of course ≡ Err SiteFault → ⊥) → (ending_of course ≡ Err DoorFault → ⊥)
+      → EndsGood tells course
       → MayEndWith Once (status_of (ending_of course))
-  complete_once misused words a b m H are sound of at disk door = commanded _ words are.settings are.set of
-  complete_once starved words a b m H are sound of at disk door = inr (inl refl)
-  complete_once (making number result) words a b m H are sound of at disk door = let it =
+  complete_once tells told misused words a b m H are sound of at disk door good = commanded _ words are.settings are.set of
+  complete_once tells told starved words a b m H are sound of at disk door good = inr (inl refl)
+  complete_once tells told (making number result) words a b m H are sound of at disk door good = let it =
       of_command Once words (making number result) are of in never_served _ it.0 Once Init it.1 it.2.0 (λ wrong. cc)
-  complete_once (unopened why) words a b m H are sound of at disk door = inr (inl (sound_unopened why m H a b sound at disk))
-  complete_once (opened start (serving service)) words a b m H are sound of at disk door = rounds_done _ service.close disk door
-  complete_once (opened start (onboarding o)) words a b m H are sound of at disk door = let it =
+  complete_once tells told (unopened why) words a b m H are sound of at disk door good = inr (inl (sound_unopened why m H a b sound at disk))
+  complete_once tells told (opened start (serving service)) words a b m H are sound of at disk door good = rounds_done _ service.close disk door
+      (λ n is. good n told is)
+  complete_once tells told (opened start (onboarding o)) words a b m H are sound of at disk door good = let it =
       of_command Once words (opened start (onboarding o)) are of in never_served _ it.0 Once Onboard it.1 it.2 (λ wrong. cc)
 
   -- from a sound start a command does its work or is refused, unless a call failed or there was no memory
-  pub complete_ending : (command : Command) (course : Course) (words : List (List ℕ)) (a b : SiteState) → AreWordsOf command words
+  pub complete_ending : (tells : Type 0) → tells → (command : Command) (course : Course) (words : List (List ℕ)) (a b : SiteState)
+      → AreWordsOf command words
       → IsStartOf command a → IsOfWords words course
-      → AtFile course a b → (ending_of course ≡ Err SiteFault → ⊥) → (ending_of course ≡ Err DoorFault → ⊥)
+      → AtFile course a b → (ending_of course ≡ Err SiteFault → ⊥) → (ending_of course ≡ Err DoorFault → ⊥) → EndsGood tells course
       → MayEndWith command (status_of (ending_of course))
-  complete_ending Init course words a b are start of at disk door = complete_init course words a b are of disk
-  complete_ending Onboard course words a b are start of at disk door =
+  complete_ending tells told Init course words a b are start of at disk door good = complete_init course words a b are of disk
+  complete_ending tells told Onboard course words a b are start of at disk door good =
       complete_onboard course words a b start.0 start.1 are start.2 of at disk door
-  complete_ending Once course words a b are start of at disk door =
-      complete_once course words a b start.0 start.1 are start.2 of at disk door
+  complete_ending tells told Once course words a b are start of at disk door good =
+      complete_once tells told course words a b start.0 start.1 are start.2 of at disk door good

@@ -1,4 +1,5 @@
 mod AnswerLemmas
+mod DeliveryLemmas
 mod DoorLemmas
 mod EndingLemmas
 mod ExactLemmas

@@ -4,7 +4,7 @@ use Rattle.lcm_sessions.specs.Onboarding.{Onboarding, unready, unheard, cut_off,
 use Rattle.lcm_sessions.specs.Session.{Talk, counts_behind}
 use Rattle.site_traits.specs.Door.{DoorCounts, call_failed, closed, next_failed, opened as has_come}
 use Rattle.vnfm_commands.specs.Course.{Course, opened, serving, onboarding, Visit, unasked, served, Round, Close}
-use Rattle.vnfm_commands.specs.Course.{finished, unreached, stopped, halted}
+use Rattle.vnfm_commands.specs.Course.{finished, unreached, stopped, halted, undelivered}
 
 -- behind a connection on which this talk was held: one fault more where the read for the next request failed, and one
 -- where telling did
@@ -25,6 +25,7 @@ close_counts finished c = c
 close_counts unreached c = next_failed c
 close_counts (stopped came talk) c = talk_counts talk c
 close_counts (halted visit turn end why) c = visit_counts visit c
+close_counts (undelivered visit turn ps end why) c = visit_counts visit c
 
 -- onboarding counts a wait or a read that failed
 abbrev pub CountsOnboarding : Onboarding → DoorCounts → DoorCounts → Type 0

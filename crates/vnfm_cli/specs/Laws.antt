@@ -13,12 +13,13 @@ use Rattle.occ_work.specs.Around.{DiskFails}
 use Rattle.site_traits.specs.Counts.{Rose, SiteCounts, one_more}
 use Rattle.site_traits.specs.Site.{Pair, SiteState}
 use Rattle.vnfm_commands.specs.Course.{Course, IsOfWords, ending_of}
+use Rattle.vnfm_cli.specs.Deliveries.{PostsInOrder, TellOfWhatStands}
 use Rattle.vnfm_cli.specs.DoorFaults.{CountsFaults}
 use Rattle.vnfm_commands.specs.Ending.{Ending, Ends, Output}
-use Rattle.vnfm_commands.specs.Outside.{Beside, Tells}
+use Rattle.vnfm_commands.specs.Outside.{Beside, Tells, posting_tells}
 use Rattle.vnfm_cli.specs.Headline.{IsFresh, IsFreshPair, IsLeftWith, IsSoundBeginning, IsSoundPair}
 use Rattle.vnfm_commands.specs.Rounds.{Receives}
-use Rattle.vnfm_commands.specs.Runs.{AtFile, CourseDoes}
+use Rattle.vnfm_commands.specs.Runs.{AtFile, CourseDoes, IsLegalCourse}
 use Rattle.vnfm_commands.specs.Words.{AreInit}
 
 -- where the count of disk faults is greater behind a run, its status is 3
@@ -29,6 +30,16 @@ DiskFaultsAreTold = (status : ℕ) (a b : SiteCounts) → DiskFails (status ≡ 
 abbrev pub DoorFaultsAreCounted : Tells → Type 0
 DoorFaultsAreCounted t = (course : Course) (a b : Beside) → CourseDoes t course a b
     → CountsFaults course a.mouth.wire.intake.counts b.mouth.wire.intake.counts
+
+-- a run posts the notices of each subscription in their order (SOL 003 5.4.20)
+abbrev pub DeliveriesGoInOrder : Tells → Type 0
+DeliveriesGoInOrder t = (course : Course) (a b : Beside) → CourseDoes t course a b → IsLegalCourse course
+    → PostsInOrder (posting_tells t) course a.courier b.courier
+
+-- a run posts notices of what stands in the history with which the deliveries of its round began alone, and so in each
+-- that goes on from there (own rule)
+abbrev pub NoticesTellOfWhatStands : Tells → Type 0
+NoticesTellOfWhatStands t = (course : Course) (a b : Beside) → CourseDoes t course a b → TellOfWhatStands course
 
 -- a run puts one line
 abbrev pub OneLineIsPut : Type 0 → Type 0

@@ -1,4 +1,5 @@
 pub mod Causes
+pub mod Deliveries
 pub mod DoorFaults
 pub mod Headline
 pub mod Laws

@@ -2,7 +2,8 @@
 ghost use Rattle.lcm_mouth.specs.World as session;
 ghost use Rattle.vnfm_cli.specs.Headline.{SoundJobsMakeSoundPairs};
 ghost use Rattle.vnfm_cli.specs.Laws.{AnswersAreWhole, DiskFaultsAreTold, DoorFaultsAreCounted, InitMakes, InitsGoOn};
-ghost use Rattle.vnfm_cli.specs.Laws.{LivesGoOn, MadeJournalsBeginSoundly, OneLineIsPut};
+ghost use Rattle.vnfm_cli.specs.Laws.{LivesGoOn, MadeJournalsBeginSoundly, DeliveriesGoInOrder, NoticesTellOfWhatStands};
+ghost use Rattle.vnfm_cli.specs.Laws.{OneLineIsPut};
 ghost use Rattle.vnfm_commands.specs.Outside.{telling};
 
 use lcm_jobs::{
@@ -10,6 +11,7 @@ use lcm_jobs::{
     idle_instances_have_no_job_standing, jobs_are_granted_work, jobs_may_end,
     rolled_back_stands_not,
 };
+use notify_outbox::notices_go_in_order;
 use site_traits::{Clock, Courier, Door, Orchestrator, Sink, Site};
 
 /// Where the count of disk faults is greater behind a run than before it, the run ended with 3.
@@ -26,6 +28,28 @@ pub fn disk_faults_are_told()
 pub fn door_faults_are_counted<S: Site, D: Door, O: Orchestrator, C: Courier, K: Clock>()
     ensures { DoorFaultsAreCounted (telling S.tells D.tells O.tells C.tells K.tells) }
 {}
+
+/// Over all rounds of a run the courier is called for the dispatches of its rounds, one behind the other, and for nothing
+/// else; and the notices of each subscription are posted in their order: each post is of the first that waits, which was
+/// neither taken nor refused five times, and before which none is that wasn't.
+///
+/// Source: SOL 003 5.4.20 (Notification endpoint).
+pub fn deliveries_go_in_order<S: Site, D: Door, O: Orchestrator, C: Courier, K: Clock>()
+    ensures { DeliveriesGoInOrder (telling S.tells D.tells O.tells C.tells K.tells) }
+{
+    notices_go_in_order();
+}
+
+/// Each notice that a run posts tells of an event that stands in the history with which the deliveries of its round
+/// began, and in each that goes on from there. While they are made a stop leaves no other, by
+/// `notify_outbox::notices_tell_of_what_stands`: so none tells of what a stop takes back.
+///
+/// Source: own rule.
+pub fn notices_tell_of_what_stands<S: Site, D: Door, O: Orchestrator, C: Courier, K: Clock>()
+    ensures { NoticesTellOfWhatStands (telling S.tells D.tells O.tells C.tells K.tells) }
+{
+    notices_go_in_order();
+}
 
 /// A run puts one line, whatever its words.
 ///

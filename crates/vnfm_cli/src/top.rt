@@ -28,22 +28,26 @@ use vnfm_commands::{finish, obey};
 ///   the order of their numbers, for each active occurrence: in STARTING, PROCESSING or ROLLING_BACK, under a cancel or
 ///   not. An act asks the orchestrator for a grant or polls it, begins the job of an attempt behind its intent, which
 ///   makes a change or undoes it, looks at a job, under a FORCEFUL cancel once it was asked to abort, or moves the
-///   occurrence on by what was answered. Rounds go on where nobody comes any more.
+///   occurrence on by what was answered. Then, at the moment of the turn, it makes one delivery, in the order of their
+///   numbers, for each live subscription: the courier posts the first notice that waits, and what became of it is
+///   recorded. Rounds go on where nobody comes any more.
 ///
 /// From a sound beginning a stop leaves, whenever it comes, a journal with all that it had and jobs that are sound with
 /// it: each change stands at most once, and none ungranted. From the moment at which a reply was told on, whenever a
 /// stop comes, that journal has all that was done up to the reply.
 ///
-/// The orchestrator and the infrastructure are asked by `once` alone, the courier isn't asked yet, and `--orchestrator`
-/// and `--vim` are used by nothing.
-/// Statuses: 0 the command did its work; 2 the words are no command; 3 exactly where a disk call failed, in an act too,
-/// after which no other is made; 4 exactly where waiting for a connection failed, or a read of a descriptor; 5 the file
-/// is no journal; 6 there is no memory; 7 the line of status 0 couldn't be put; 8 a record is bad; 9 the journal has no
-/// room for the descriptor, or for an event of an act; 10 the descriptor is refused; 11 the file isn't unfinished for
-/// the manager of `init`. After 2, 5, 8, 10 and 11 the file is as it was; after 4, 6 and 9 too, but that what `once`
-/// acknowledged, and what its acts recorded, stand. A call of the orchestrator or the infrastructure that failed gives
-/// no status: a later turn goes on from it. Source: SOL 003 clause 5; words, statuses and lines are an own rule,
-/// docs/FORMATS.md.
+/// The orchestrator, the infrastructure and the courier are asked by `once` alone, and `--orchestrator` and `--vim` are
+/// used by nothing.
+/// Statuses: 0 the command did its work; 2 the words are no command; 3 exactly where a disk call failed, in an act or a
+/// delivery too, after which no other is made; 4 exactly where waiting for a connection failed, or a read of a
+/// descriptor; 5 the file is no journal; 6 there is no memory; 7 the line of status 0 couldn't be put; 8 a record is
+/// bad, which is found out at the opening where the site tells its content, and else perhaps where a delivery reads it
+/// back; 9 the journal has no room for the descriptor, or for an event of an act or a delivery; 10 the descriptor is
+/// refused; 11 the file isn't unfinished for the manager of `init`. After 2, 5, 10, 11, and 8 at the opening, the file
+/// is as it was; after 4, 6, 9, and 8 in a delivery, too, but that what `once` acknowledged, and what its acts and
+/// deliveries recorded, stand. A call of the orchestrator, the infrastructure or the courier that failed gives no
+/// status: a later turn or delivery goes on from it. Source: SOL 003 clause 5; words, statuses and lines are an own
+/// rule, docs/FORMATS.md.
 pub fn run<S: Site, D: Door, O: Orchestrator, C: Courier, K: Clock, W: Sink>(
     alloc: Global,
     words: &[Text],
@@ -65,7 +69,7 @@ pub fn run<S: Site, D: Door, O: Orchestrator, C: Courier, K: Clock, W: Sink>(
           lines = output_of W.state W.counts out.new;
         }) }
     ensures unasked { ¬ (AreWordsOf Once words.now) → orchestrator.new ≡ orchestrator.old }
-    ensures untouched { courier.new ≡ courier.old }
+    ensures unposted { ¬ (AreWordsOf Once words.now) → courier.new ≡ courier.old }
 {
     files_are_one_thing();
     a_legal_history_has_no_bad_record();

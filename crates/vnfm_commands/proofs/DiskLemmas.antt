@@ -15,7 +15,9 @@ use Rattle.journal_core.specs.declared.create.CreateFault.TheVariants as creatin
 use Rattle.occ_work.specs.Around.{CountJobsAlike, DiskFails}
 use Rattle.lcm_sessions.specs.declared.answer.OnboardFault.{OnboardFault}
 use Rattle.lcm_sessions.specs.declared.answer.OnboardFault.TheVariants as fault
-use Rattle.vnfm_commands.specs.Course.{halt_of, halting, making_ending, unonboarded, unopened_failure}
+use Rattle.notify_outbox.specs.declared.faults.DeliveryFault.{DeliveryFault}
+use Rattle.notify_outbox.specs.declared.faults.DeliveryFault.TheVariants as delivering
+use Rattle.vnfm_commands.specs.Course.{halt_of, halting, making_ending, undelivered_by, unonboarded, unopened_failure}
 use Rattle.vnfm_commands.specs.Ending.{Ending}
 use Rattle.vnfm_commands.specs.declared.ending.Failure.{Failure}
 use Rattle.vnfm_commands.specs.declared.ending.Failure.TheVariants.{SiteFault}
@@ -113,6 +115,15 @@ turn_fails (working.Full end more) why a b is f = disk_never _ _ a b f (λ wrong
 turn_fails working.Memory why a b is f = disk_never _ _ a b f (λ wrong. cc wrong) (λ wrong. cc (is, wrong))
 turn_fails working.Disk why a b is f = disk_as _ _ a b f (λ _. cc is) (λ _. refl)
 turn_fails (working.TooLong n) why a b is f = absurd (cc is)
+
+-- deliveries that didn't go through
+pub posts_fail : {T : Type 0} (fault : DeliveryFault) (why : Failure) (a b : SiteCounts) → why ≡ halting (undelivered_by fault)
+    → OnlyDiskFails (◌≡◌ {A = Result T DeliveryFault} (Err fault) (Err delivering.Disk)) a b
+    → OnlyDiskFails (◌≡◌ {A = Result (Unit {0}) Failure} (Err why) (Err SiteFault)) a b
+posts_fail (delivering.Full end more) why a b is f = fails_never _ _ a b f (λ wrong. cc wrong) (λ wrong. cc (is, wrong))
+posts_fail delivering.Memory why a b is f = fails_never _ _ a b f (λ wrong. cc wrong) (λ wrong. cc (is, wrong))
+posts_fail (delivering.BadRecord n) why a b is f = fails_never _ _ a b f (λ wrong. cc wrong) (λ wrong. cc (is, wrong))
+posts_fail delivering.Disk why a b is f = fails_as _ _ a b f (λ _. ap Err is) (λ _. refl)
 
 -- where the count of disk faults rose, the status is 3
 pub rises_where : (status : ℕ) (a b : SiteCounts) → DiskFails (status ≡ 3) a b → a.disk < b.disk → status ≡ 3

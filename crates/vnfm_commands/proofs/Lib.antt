@@ -1,4 +1,4 @@
 pub mod DiskLemmas
 mod RoundLemmas
 mod RunLemmas
-mod ToldLemmas
+pub mod ToldLemmas

@@ -1,6 +1,6 @@
 -- One round, and the rounds so far.
 use Rattle.std.proofs.Common.{◌≡◌, ◌<◌, ◌+◌, ◌⊎◌, ℕ, Bool, true, false, true≢false, List, [], ◌∷◌, length, Option, Some, None, option_map}
-use Rattle.std.proofs.Common.{Result, Ok, Err, sym, subst, refl, ap, ◌∙◌, arith}
+use Rattle.std.proofs.Common.{min, Result, Ok, Err, sym, subst, refl, ap, ◌∙◌, arith}
 use Rattle.executor.specs.Chain.{AreTold, ChainsJoin}
 use Rattle.executor.specs.Managed.{Managed, IsReady}
 use Rattle.executor.specs.declared.manager.WorkFault.{WorkFault}
@@ -15,7 +15,13 @@ use Rattle.lcm_mouth.specs.World.{Peers, World, peers_of, world}
 use Rattle.lcm_sessions.specs.Talking as talking
 use Rattle.lcm_events.specs.declared.events.Event.{Event}
 use Rattle.lcm_events.specs.declared.states.Role.{Role}
-use Rattle.occ_work.specs.Around.{Peer}
+use Rattle.notify_outbox.specs.Dispatches.{Dispatch}
+use Rattle.notify_outbox.specs.Lent as lending
+use Rattle.notify_outbox.specs.Rounds as outbox
+use Rattle.notify_outbox.specs.Rounds.{DeliversAll, EndsRound, RoundEnd, end_work}
+use Rattle.notify_outbox.specs.declared.faults.DeliveryFault.{DeliveryFault}
+use Rattle.notify_outbox.specs.declared.rounds.Deliveries.{Deliveries}
+use Rattle.occ_work.specs.Around.{Peer, Unasked}
 use Rattle.occ_work.specs.Turns.{EndsTurn, TurnEnd, Turns, through, stopped as by, turn_work}
 use Rattle.occ_work.specs.declared.ends.Acted.{Acted}
 use Rattle.occ_work.specs.declared.ends.Turn.{Turn}
@@ -26,18 +32,20 @@ use Rattle.site_traits.specs.declared.door.NextAnswer.{NextAnswer}
 use Rattle.site_traits.specs.declared.door.NextAnswer.TheVariants.{Nobody, Ended}
 use Rattle.site_traits.specs.Moments.{kept_jobs}
 use Rattle.site_traits.specs.Site.{KeepsJobs, SiteState}
-use Rattle.vnfm_commands.specs.Course.{Visit, unasked, served, Turning, Round, Close, finished, unreached, stopped, halted, Halt, full}
-use Rattle.vnfm_commands.specs.Course.{starving as lacking, broken, halt_of, Service, IsCount, close_ending, close_work, halting, moment_of}
-use Rattle.vnfm_commands.specs.Course.{once_made, once_served, told_at_close, told_in_rounds, told_in_visit}
-use Rattle.vnfm_commands.specs.Outside.{Outside, Tells, acting_outside, acting_tells, beside, session_tells, session_world}
-use Rattle.vnfm_commands.specs.Rounds.{AreFor, AsksNobody, FailsBy, IsDoorEnd, IsEndFor, IsMet, IsOne, IsTurned, IsVisitFor, Makes}
-use Rattle.vnfm_commands.specs.Rounds.{MakesOne, Meets, Met, visited, over, MetFor, One, round, end, OneFor, Receives, RoundsDo, TurnDoes}
-use Rattle.vnfm_commands.specs.Rounds.{VisitDoes}
-use Rattle.vnfm_commands.proofs.ToldLemmas.{rounds_within, visit_within}
+use Rattle.vnfm_commands.specs.Course.{Visit, unasked, served, Turning, Round, Close, finished, unreached, stopped, halted, undelivered}
+use Rattle.vnfm_commands.specs.Course.{Halt, full, starving as lacking, broken, halt_of, Service, IsCount, close_ending, close_work}
+use Rattle.vnfm_commands.specs.Course.{halting, moment_of, once_acted, once_made, once_posted, once_served, told_at_close}
+use Rattle.vnfm_commands.specs.Course.{told_in_rounds, told_in_visit, undelivered_by}
+use Rattle.vnfm_commands.specs.Outside.{Beside, Outside, Tells, acting_outside, acting_tells, beside, posting_outside, posting_tells}
+use Rattle.vnfm_commands.specs.Outside.{session_tells, session_world}
+use Rattle.vnfm_commands.specs.Rounds.{AreFor, AsksNobody, IsDoorEnd, IsEndFor, IsMet, IsOne, IsPosted, IsTurned, IsVisitFor}
+use Rattle.vnfm_commands.specs.Rounds.{Makes, MakesOne, Meets, Met, visited, over, MetFor, One, round, end, OneFor, Receives, RoundGoes}
+use Rattle.vnfm_commands.specs.Rounds.{RoundsDo, TurnDoes, VisitDoes}
+use Rattle.vnfm_commands.proofs.ToldLemmas.{acted_within, rounds_within, visit_within}
 use Rattle.vnfm_commands.specs.declared.ending.Failure.{Failure}
 use Rattle.vnfm_commands.specs.declared.ending.Failure.TheVariants.{DoorFault}
 use Rattle.vnfm_commands.specs.declared.rounds.ServedRole.{ServedRole}
-use Rattle.occ_work.specs.Deeds.{point}
+use Rattle.occ_work.specs.Deeds.{Deed, point}
 
 unbroken_last : (m : ℕ) (H : List Event) (last : Last) → is_breaking last ≡ false → work_last m H last ≡ went (stood (work_last m H last))
 unbroken_last m H no_more fine = refl
@@ -106,32 +114,79 @@ turned (Err fault) (Err why) ends (by d cause) is of =
     let h = caused fault why of in
     (h.0, subst (λ (f : WorkFault). halt_of f ≡ Some h.0) is h.1, h.2)
 
--- calls that leave the jobs alone, of which only those on the disk fail, ask nobody
+-- how deliveries ended that went through
+pub posted_all : (made : Deliveries) (ps : List Dispatch) (ended : RoundEnd) → EndsRound (Ok made) ps ended
+    → IsPosted (Ok (tt {0})) ended
+posted_all made ps outbox.through is = tt
+posted_all made ps (outbox.stopped s c cause) is = absurd is
+
+-- how deliveries ended in a fault, by its failure
+pub posted_some : (fault : DeliveryFault) (why : Failure) (ps : List Dispatch) (ended : RoundEnd) → EndsRound (Err fault) ps ended
+    → why ≡ halting (undelivered_by fault) → IsPosted (Err why) ended
+posted_some fault why ps outbox.through is of = absurd is
+posted_some fault why ps (outbox.stopped s c cause) is of = (
+  undelivered_by cause,
+  refl,
+  of ∙ ap (λ (f : DeliveryFault). halting (undelivered_by f)) is,
+)
+
+-- calls that leave the jobs alone, of which only those on the disk fail, ask neither the orchestrator nor the infrastructure
+calls_nobody : (t : Tells) (failed : Type 0) (w v : Outside) → v.orchestrator ≡ w.orchestrator → (t.site → KeepsJobs w.site v.site)
+    → OnlyDiskFails failed w.counts v.counts → Unasked (acting_tells t) (beside w).around (beside v).around
+calls_nobody t failed w v orchestrator alone counts = record {
+  told = λ tells. ap (λ (p : Peer). p.state) orchestrator;
+  counts = ap (λ (p : Peer). p.counts) orchestrator;
+  handled = record {
+    jobs = λ tells. kept_jobs w.site v.site (alone tells);
+    answers = λ tells. (alone tells).answers;
+    counts = record { vim = counts.vim; look = counts.look; refusals = counts.refusals };
+  };
+}
+
+-- the same where the courier is as it was
 pub asks_nobody : (t : Tells) (failed : Type 0) (w v : Outside) → v.orchestrator ≡ w.orchestrator → v.courier ≡ w.courier
     → (t.site → KeepsJobs w.site v.site) → OnlyDiskFails failed w.counts v.counts → AsksNobody t (beside w) (beside v)
 asks_nobody t failed w v orchestrator courier alone counts = record {
   orchestrator = orchestrator;
   courier = courier;
-  unasked = record {
-    told = λ tells. ap (λ (p : Peer). p.state) orchestrator;
-    counts = ap (λ (p : Peer). p.counts) orchestrator;
-    handled = record {
-      jobs = λ tells. kept_jobs w.site v.site (alone tells);
-      answers = λ tells. (alone tells).answers;
-      counts = record { vim = counts.vim; look = counts.look; refusals = counts.refusals };
-    };
-  };
+  unasked = calls_nobody t failed w v orchestrator alone counts;
 }
 
 -- What a visit did, and what the turn behind it does, from where that ended.
-record Went (t : Tells) (m : ℕ) (H : List Event) (visit : Visit) (n : Managed) (w u : Outside) : Type 0 where
-  works : WorksWithJobs t.site m H (went (once_served m H visit)) n w.site u.site
-  does : VisitDoes t m H visit (beside w) (beside u)
-  told : AreTold t.site m (told_in_visit m H visit) w.mouth.told u.mouth.told w.site u.site
+pub record Went (t : Tells) (m : ℕ) (H : List Event) (visit : Visit) (n : Managed) (w u : Outside) : Type 0 where
+  pub works : WorksWithJobs t.site m H (went (once_served m H visit)) n w.site u.site
+  pub does : VisitDoes t m H visit (beside w) (beside u)
+  pub told : AreTold t.site m (told_in_visit m H visit) w.mouth.told u.mouth.told w.site u.site
 
-record Goes (t : Tells) (m : ℕ) (H : List Event) (turn : Turning) (ended : TurnEnd) (o : Managed) (u v : Outside) : Type 0 where
-  turns : Turns (acting_tells t) (point m (moment_of turn) H) turn.acts ended o (acting_outside u) (acting_outside v)
-  does : TurnDoes t m H turn ended (beside u) (beside v)
+pub record Goes (t : Tells) (m : ℕ) (H : List Event) (turn : Turning) (ended : TurnEnd) (o : Managed) (u v : Outside) : Type 0 where
+  pub turns : Turns (acting_tells t) (point m (moment_of turn) H) turn.acts ended o (acting_outside u) (acting_outside v)
+  pub does : TurnDoes t m H turn ended (beside u) (beside v)
+
+-- the turn at the moment of what the clock gave, in which these acts were made
+abbrev pub turning : ℕ → List Deed → Turning
+turning value acts = record { value = value; acts = acts }
+
+-- what a visit did for this role, and the turn behind it, by what that answered
+pub record HasTurned (t : Tells) (role : ServedRole) (m : ℕ) (H : List Event) (value : ℕ) (answer : Result (Unit {0}) Failure)
+    (n o : Managed) (w u v : Outside) : Type 0 where
+  pub visit : Visit
+  pub acts : List Deed
+  pub ended : TurnEnd
+  pub first : Went t m H visit n w u
+  pub second : Goes t m (once_served m H visit) (turning value acts) ended o u v
+  pub for : IsVisitFor role visit
+  pub is : IsTurned answer ended
+
+-- what a visit did for this role, and a turn behind it that went through
+pub record HasActed (t : Tells) (role : ServedRole) (m : ℕ) (H : List Event) (value : ℕ) (n : Managed) (w v : Outside) : Type 0 where
+  pub visit : Visit
+  pub acts : List Deed
+  pub works : WorksWithJobs t.site m H (went (once_acted m H visit (turning value acts))) n w.site v.site
+  pub met : Beside
+  pub visits : VisitDoes t m H visit (beside w) met
+  pub turns : TurnDoes t m (once_served m H visit) (turning value acts) through met (beside v)
+  pub told : AreTold t.site m (told_in_visit m H visit) w.mouth.told v.mouth.told w.site v.site
+  pub for : IsVisitFor role visit
 
 -- the chain of both
 told_by_both : (t : Tells) (m : ℕ) (H : List Event) (visit : Visit) (turn : Turning) (ended : TurnEnd) (n o : Managed) (w u v : Outside)
@@ -144,55 +199,125 @@ told_by_both t m H visit turn ended n o w u v chains first second =
     first.works.at_file.site (visit_within m H visit) first.told second.turns.works.at_file.site
     (ap (λ (x : MouthState). x.told) second.does.mouth)
 
--- a visit and a turn that went through are a round
-round_made : (t : Tells) (m : ℕ) (H : List Event) (visit : Visit) (turn : Turning) (n o : Managed) (w u v : Outside)
+-- a turn that went through, behind a visit
+pub has_acted : (t : Tells) (role : ServedRole) (m : ℕ) (H : List Event) (value : ℕ) (n o : Managed) (w u v : Outside)
     → WorksWithJobsJoin t.site w.site u.site v.site → ChainsJoin t.site w.site u.site v.site
-    → Went t m H visit n w u → Goes t m (once_served m H visit) turn through o u v
-    → MakesOne t m H (round (record { visit = visit; turn = turn })) o w v
-round_made t m H visit turn n o w u v joins chains first second =
-    let G : List Event = once_served m H visit in
-    record {
-      works = joins m H G (turn_work (moment_of turn) G turn.acts through) n o first.works second.turns.works;
-      does = (beside u, first.does, second.does);
-      told = told_by_both t m H visit turn through n o w u v chains first second;
-    }
-
--- a visit and a turn that ended in this fault end the rounds
-round_halted : (t : Tells) (m : ℕ) (H : List Event) (visit : Visit) (turn : Turning) (ended : TurnEnd) (why : Halt) (n o : Managed)
-    (w u v : Outside) → WorksWithJobsJoin t.site w.site u.site v.site → ChainsJoin t.site w.site u.site v.site
-    → Went t m H visit n w u → Goes t m (once_served m H visit) turn ended o u v → FailsBy ended why
-    → MakesOne t m H (end (halted visit turn ended why)) o w v
-round_halted t m H visit turn ended why n o w u v joins chains first second fails =
-    let G : List Event = once_served m H visit in
-    record {
-      works = joins m H G (turn_work (moment_of turn) G turn.acts ended) n o first.works second.turns.works;
-      does = (beside u, first.does, second.does, fails);
-      told = told_by_both t m H visit turn ended n o w u v chains first second;
-    }
-
--- what came of a round in which a visit was made, by what the turn answered
-round_turned : (t : Tells) (m : ℕ) (H : List Event) (role : ServedRole) (visit : Visit) (turn : Turning) (ended : TurnEnd)
-    (answer : Result (Unit {0}) Failure) (n o : Managed) (w u v : Outside) → WorksWithJobsJoin t.site w.site u.site v.site
-    → ChainsJoin t.site w.site u.site v.site
-    → Went t m H visit n w u → Goes t m (once_served m H visit) turn ended o u v → IsTurned answer ended → IsVisitFor role visit
-    → (one : One) × MakesOne t m H one o w v × OneFor role one × IsOne answer one
-round_turned t m H role visit turn ended (Ok done) n o w u v joins chains first second is for = went_by ended second is
+    → HasTurned t role m H value (Ok tt) n o w u v → HasActed t role m H value o w v
+has_acted t role m H value n o w u v joins chains it = went_by it.ended it.second it.is
   where
-    went_by : (e : TurnEnd) → Goes t m (once_served m H visit) turn e o u v → IsTurned (Ok done) e
-        → (one : One) × MakesOne t m H one o w v × OneFor role one × IsOne (Ok done) one
-    went_by through gone is = (
-      round (record { visit = visit; turn = turn }),
-      round_made t m H visit turn n o w u v joins chains first gone,
-      for,
-      tt,
-    )
+    went_by : (e : TurnEnd) → Goes t m (once_served m H it.visit) (turning value it.acts) e o u v → IsTurned (Ok (tt {0})) e
+        → HasActed t role m H value o w v
+    went_by through gone is =
+        let G : List Event = once_served m H it.visit in
+        let turn : Turning = turning value it.acts in
+        record {
+          visit = it.visit;
+          acts = it.acts;
+          works = joins m H G (turn_work (moment_of turn) G turn.acts through) n o it.first.works gone.turns.works;
+          met = beside u;
+          visits = it.first.does;
+          turns = gone.does;
+          told = told_by_both t m H it.visit turn through n o w u v chains it.first gone;
+          for = it.for;
+        }
     went_by (by d cause) gone is = absurd is
-round_turned t m H role visit turn ended (Err why) n o w u v joins chains first second is for = (
-  end (halted visit turn ended is.0),
-  round_halted t m H visit turn ended is.0 n o w u v joins chains first second is.1,
+
+-- behind it the manager is ready for the deliveries
+pub ready_acted : (t : Tells) (role : ServedRole) (m : ℕ) (H : List Event) (value : ℕ) (n : Managed) (w v : Outside)
+    → WorksWithJobsLeadOn t.site w.site v.site → HasActed t role m H value n w v → (G : List Event) × IsReady t.site n G v.site
+ready_acted t role m H value n w v leads it =
+    let G : List Event = once_acted m H it.visit (turning value it.acts) in
+    (G, leads m H (went G) n it.works refl)
+
+-- a visit and a turn that ended in a fault end the rounds
+pub round_halted : (t : Tells) (role : ServedRole) (m : ℕ) (H : List Event) (value : ℕ) (why : Failure) (n o : Managed) (w u v : Outside)
+    → WorksWithJobsJoin t.site w.site u.site v.site → ChainsJoin t.site w.site u.site v.site
+    → HasTurned t role m H value (Err why) n o w u v
+    → (one : One) × MakesOne t m H one o w v × OneFor role one × IsOne (Err why) one
+round_halted t role m H value why n o w u v joins chains it =
+    let G : List Event = once_served m H it.visit in
+    let turn : Turning = turning value it.acts in (
+      end (halted it.visit turn it.ended it.is.0),
+      record {
+        works = joins m H G (turn_work (moment_of turn) G turn.acts it.ended) n o it.first.works it.second.turns.works;
+        does = (beside u, it.first.does, it.second.does, it.is.1);
+        told = told_by_both t m H it.visit turn it.ended n o w u v chains it.first it.second;
+      },
+      it.for,
+      ap Err it.is.2,
+    )
+
+-- the deliveries of a round behind what was done in it before
+record Posts (t : Tells) (m : ℕ) (H : List Event) (visit : Visit) (turn : Turning) (ps : List Dispatch) (ended : RoundEnd) (o : Managed)
+    (w v : Outside) : Type 0 where
+  works : WorksWithJobs t.site m H (end_work (moment_of turn) (once_posted turn (once_acted m H visit turn) ps) ended) o w.site v.site
+  does : RoundGoes t m H visit turn ps ended (beside w) (beside v)
+  told : AreTold t.site m (told_in_visit m H visit) w.mouth.told v.mouth.told w.site v.site
+
+-- what came of a round in which a turn went through, by what its deliveries answered
+round_by : (t : Tells) (role : ServedRole) (m : ℕ) (H : List Event) (visit : Visit) (turn : Turning) (ps : List Dispatch)
+    (ended : RoundEnd) (answer : Result (Unit {0}) Failure) (o : Managed) (w v : Outside)
+    → Posts t m H visit turn ps ended o w v → IsVisitFor role visit → IsPosted answer ended
+    → (one : One) × MakesOne t m H one o w v × OneFor role one × IsOne answer one
+round_by t role m H visit turn ps outbox.through (Ok done) o w v posts for is = (
+  round (record { visit = visit; turn = turn; dispatches = ps }),
+  record { works = posts.works; does = posts.does; told = posts.told },
+  for,
+  tt,
+)
+round_by t role m H visit turn ps (outbox.stopped s c cause) (Ok done) o w v posts for is = absurd is
+round_by t role m H visit turn ps ended (Err why) o w v posts for is = (
+  end (undelivered visit turn ps ended is.0),
+  record { works = posts.works; does = (posts.does, is.1); told = posts.told },
   for,
   ap Err is.2,
 )
+
+-- what came of a round in which a turn went through
+pub round_posted : (t : Tells) (role : ServedRole) (m : ℕ) (H : List Event) (value now : ℕ) (answer : Result (Unit {0}) Failure)
+    (failed : Type 0) (n o : Managed) (w u v : Outside)
+    → WorksWithJobsLeadOn t.site w.site u.site → WorksWithJobsJoin t.site w.site u.site v.site → ChainsJoin t.site w.site u.site v.site
+    → WorksAreWithJobs t.site u.site v.site
+    → OnlyDiskFails failed u.counts v.counts → v.mouth ≡ u.mouth → v.clock ≡ u.clock → v.orchestrator ≡ u.orchestrator
+    → now ≡ min value 253402300799999
+    → HasActed t role m H value n w u
+    → ((G : List Event) → IsReady t.site n G u.site → (ps : List Dispatch) × (ended : RoundEnd)
+    × DeliversAll (posting_tells t) (lending.point n.ledger.manager now G) ps ended o (posting_outside u) (posting_outside v)
+    × IsPosted answer ended)
+    → (one : One) × MakesOne t m H one o w v × OneFor role one × IsOne answer one
+round_posted t role m H value now answer failed n o w u v leads joins chains alone counts mouth clock orchestrator timed acted
+    posts =
+    let turn : Turning = turning value acted.acts in
+    let G : List Event = once_acted m H acted.visit turn in
+    let it = posts G (leads m H (went G) n acted.works refl) in
+    let P : ℕ → Type 0 = λ x. DeliversAll (posting_tells t) (lending.point x now G) it.0 it.1 o (posting_outside u) (posting_outside v) in
+    let Q : ℕ → Type 0 = λ x. DeliversAll (posting_tells t) (lending.point m x G) it.0 it.1 o (posting_outside u) (posting_outside v) in
+    let did = subst Q timed (subst P acted.works.at_file.number it.2) in
+    let K : Work = end_work (moment_of turn) (once_posted turn G it.0) it.1 in
+    let behind = alone m G K o did.works in
+    round_by t role m H acted.visit turn it.0 it.1 answer o w v
+    (record {
+      works = joins m H G K n o acted.works behind;
+      does = record {
+        met = acted.met;
+        turned = beside u;
+        visits = acted.visits;
+        turns = acted.turns;
+        posts = record {
+          mouth = mouth;
+          clock = clock;
+          orchestrator = orchestrator;
+          unasked = calls_nobody t failed u v orchestrator did.works.jobs counts;
+          between = did.between;
+          posts = did.dispatches_do;
+          end_does = did.end_does;
+          each = did.order;
+        };
+      };
+      told = chains m H G K n o [] (told_in_visit m H acted.visit) w.mouth.told u.mouth.told v.mouth.told acted.works.at_file.site
+          (acted_within m H acted.visit turn) acted.told behind.at_file.site (ap (λ (x : MouthState). x.told) mouth);
+    })
+    acted.for it.3
 
 -- which visit it was that was made
 pub the_visit : (met : Met) → IsMet (Ok tt) met → (v : Visit) × (met ≡ visited v)
@@ -212,20 +337,18 @@ ready_met t role m n w u leads meets ready =
     let G : List Event = once_served m.ledger.manager ready.0 v.0 in
     (G, leads m.ledger.manager ready.0 (went G) n met.works refl)
 
--- what came of a round in which a visit was made
-pub made_by : (t : Tells) (role : ServedRole) (m n o : Managed) (answer : Result (Unit {0}) Failure) (failed : Type 0) (w u v : Outside)
-    → LeadsOn t.site w.site u.site → WorksAreWithJobs t.site w.site u.site → ChainsJoin t.site w.site u.site v.site
-    → WorksWithJobsJoin t.site w.site u.site v.site
+-- a turn behind a visit that was made
+pub turned_behind : (t : Tells) (role : ServedRole) (m n o : Managed) (value now : ℕ) (answer : Result (Unit {0}) Failure) (failed : Type 0)
+    (w u v : Outside) → LeadsOn t.site w.site u.site → WorksAreWithJobs t.site w.site u.site
+    → OnlyDiskFails failed w.counts u.counts → u.orchestrator ≡ w.orchestrator → u.courier ≡ w.courier → v.mouth ≡ u.mouth
+    → v.courier ≡ u.courier → (t.clock → Gives value u.clock v.clock) → now ≡ min value 253402300799999
     → ((H : List Event) → IsReady t.site m H w.site → (met : Met) × Meets (session_tells t) m.ledger.manager H met n (session_world w)
     (session_world u) × MetFor role met × IsMet (Ok tt) met)
-    → OnlyDiskFails failed w.counts u.counts → u.orchestrator ≡ w.orchestrator → u.courier ≡ w.courier → v.mouth ≡ u.mouth
-    → v.courier ≡ u.courier
-    → ((H : List Event) → IsReady t.site n H u.site → (turn : Turning) × (ended : TurnEnd)
-    × Turns (acting_tells t) (point n.ledger.manager (moment_of turn) H) turn.acts ended o (acting_outside u) (acting_outside v)
-    × (t.clock → Gives turn.value u.clock v.clock) × IsTurned answer ended)
-    → (H : List Event) → IsReady t.site m H w.site
-    → (one : One) × MakesOne t m.ledger.manager H one o w v × OneFor role one × IsOne answer one
-made_by t role m n o answer failed w u v leads alone chains joins meets counts orchestrator courier mouth same turns H ready =
+    → ((H : List Event) → IsReady t.site n H u.site → (acts : List Deed) × (ended : TurnEnd)
+    × Turns (acting_tells t) (point n.ledger.manager now H) acts ended o (acting_outside u) (acting_outside v) × IsTurned answer ended)
+    → (H : List Event) → IsReady t.site m H w.site → HasTurned t role m.ledger.manager H value answer n o w u v
+turned_behind t role m n o value now answer failed w u v leads alone counts orchestrator courier mouth same gives timed meets turns H
+    ready =
     let it = meets H ready in
     let met_as = the_visit it.0 it.3 in
     let P : Met → Type 0 = λ x. Meets (session_tells t) m.ledger.manager H x n (session_world w) (session_world u) in
@@ -233,29 +356,35 @@ made_by t role m n o answer failed w u v leads alone chains joins meets counts o
     let met : Meets (session_tells t) m.ledger.manager H (visited met_as.0) n (session_world w) (session_world u) = subst P met_as.1 it.1 in
     let G : List Event = once_served m.ledger.manager H met_as.0 in
     let turned = turns G (leads m.ledger.manager H (went G) n met.works refl) in
-    let R : ℕ → Type 0 = λ x. Turns (acting_tells t) (point x (moment_of turned.0) G) turned.0.acts turned.1 o (acting_outside u)
+    let R : ℕ → Type 0 = λ x. Turns (acting_tells t) (point x now G) turned.0 turned.1 o (acting_outside u) (acting_outside v) in
+    let S : ℕ → Type 0 = λ x. Turns (acting_tells t) (point m.ledger.manager x G) turned.0 turned.1 o (acting_outside u)
     (acting_outside v) in
-    let done = subst R met.works.number turned.2 in
-    round_turned t m.ledger.manager H role met_as.0 turned.0 turned.1 answer n o w u v joins chains
-    (record {
-      works = alone m.ledger.manager H (went G) n met.works;
-      does = record { visits = met.does; asks = asks_nobody t failed w u orchestrator courier met.works.jobs counts };
-      told = met.told;
-    })
-    (record {
-      turns = done;
-      does = record {
-        mouth = mouth;
-        courier = same;
-        clock = turned.3;
-        between = done.between;
-        acts = done.deeds_do;
-        end_does =
-            done.end_does;
-        each = done.order;
+    let done = subst S timed (subst R met.works.number turned.2) in
+    record {
+      visit = met_as.0;
+      acts = turned.0;
+      ended = turned.1;
+      first = record {
+        works = alone m.ledger.manager H (went G) n met.works;
+        does = record { visits = met.does; asks = asks_nobody t failed w u orchestrator courier met.works.jobs counts };
+        told = met.told;
       };
-    })
-    turned.4 (subst Q met_as.1 it.2)
+      second = record {
+        turns = done;
+        does = record {
+          mouth = mouth;
+          courier = same;
+          clock = gives;
+          between = done.between;
+          acts = done.deeds_do;
+          end_does =
+              done.end_does;
+          each = done.order;
+        };
+      };
+      for = subst Q met_as.1 it.2;
+      is = turned.3;
+    }
 
 -- the rounds that ended at the door
 pub door_end : (why : Failure) (c : Close) → IsDoorEnd why c → IsEndFor why c
@@ -263,6 +392,7 @@ door_end why finished is = absurd is
 door_end why unreached is = ap Err is
 door_end why (stopped came talk) is = ap Err is
 door_end why (halted visit turn ended cause) is = absurd is
+door_end why (undelivered visit turn ps ended cause) is = absurd is
 
 -- nobody came
 pub met_nobody : (t : session.WorldTells) (m : Managed) (H : List Event) (answer : NextAnswer) (s : SiteState) (c d : MouthState)
@@ -300,7 +430,11 @@ round_over t m H role why failed (visited visit) n w v alone meets for is counts
 round_over t m H role why failed (over finished) n w v alone meets for is counts orchestrator courier same = absurd is
 round_over t m H role why failed (over unreached) n w v alone meets for is counts orchestrator courier same = (
   end unreached,
-  record { works = alone m H (went H) n meets.works; does = (meets.does, same is, courier); told = meets.told },
+  record {
+    works = alone m H (went H) n meets.works;
+    does = (meets.does, same is, courier);
+    told = meets.told;
+  },
   for,
   door_end why unreached is,
 )
@@ -316,6 +450,8 @@ round_over t m H role why failed (over (stopped came talk)) n w v alone meets fo
 )
 round_over t m H role why failed (over (halted visit turn ended cause)) n w v alone meets for is counts orchestrator courier same =
     absurd is
+round_over t m H role why failed (over (undelivered visit turn ps ended cause)) n w v alone meets for is counts orchestrator courier
+    same = absurd is
 
 -- the rounds so far: all were made
 pub record RoundsSoFar (t : Tells) (role : ServedRole) (m n : Managed) (made : ℕ) (w v : Outside) : Type 0 where
@@ -436,9 +572,11 @@ rounds_ended t role m n o made count why w u v so_far leads joins chains fewer s
     fewer_by why unreached n wanted is less = less
     fewer_by why (stopped came talk) n wanted is less = less
     fewer_by why (halted visit turn after cause) n wanted is less = less
+    fewer_by why (undelivered visit turn ps after cause) n wanted is less = less
 
     ended_by : (why : Failure) (c : Close) (n : ℕ) → IsEndFor why c → Err why ≡ close_ending n c
     ended_by why finished n is = absurd is
     ended_by why unreached n is = is
     ended_by why (stopped came talk) n is = is
     ended_by why (halted visit turn after cause) n is = is
+    ended_by why (undelivered visit turn ps after cause) n is = is

@@ -10,6 +10,10 @@ use Rattle.journal_core.specs.declared.create.CreateFault.TheVariants as creatin
 use Rattle.lcm_sessions.specs.Session.{Talk, behind_told, life, work_of}
 use Rattle.lcm_events.specs.declared.events.Event.{Event}
 use Rattle.lcm_events.specs.declared.states.Role.{Role}
+use Rattle.notify_outbox.specs.Dispatches.{Dispatch}
+use Rattle.notify_outbox.specs.Rounds.{RoundEnd, end_work, once_all_dispatched}
+use Rattle.notify_outbox.specs.declared.faults.DeliveryFault.{DeliveryFault}
+use Rattle.notify_outbox.specs.declared.faults.DeliveryFault.TheVariants as delivering
 use Rattle.occ_work.specs.Deeds.{Deed}
 use Rattle.occ_work.specs.Turns.{TurnEnd, once_all_done, turn_work}
 use Rattle.lcm_sessions.specs.Onboarding.{Onboarding, answer_of, onboarding_work}
@@ -42,23 +46,29 @@ pub record Turning : Type 0 where
   pub value : ℕ
   pub acts : List Deed
 
--- what came of a round: a visit, and then a turn that went through
+-- what came of a round: a visit, then a turn that went through, and then deliveries that did, with the dispatches that
+-- were made, the latest first
 pub record Round : Type 0 where
   pub visit : Visit
   pub turn : Turning
+  pub dispatches : List Dispatch
 
--- why a turn didn't go through: the closed gate stands at this place, and behind it there is no room for so many bytes
--- of an act's event; there is no memory; or the disk failed
+-- why a turn or the deliveries of a round didn't go through: the closed gate stands at this place, and behind it there
+-- is no room for so many bytes of an event; there is no memory; the disk failed; or this record isn't the event that it
+-- was
 pub data Halt : Type 0 where
   full : ℕ → ℕ → Halt
   starving broken : Halt
+  bad : ℕ → Halt
 
 -- How the rounds ended: all were made, waiting for a connection failed, the disk failed in a talk on a connection from
--- this role, or behind this visit the turn with these acts ended so, for this cause.
+-- this role, behind this visit the turn with these acts ended so, for this cause, or behind a visit and a turn that
+-- went through the deliveries with these dispatches did.
 pub data Close : Type 0 where
   finished unreached : Close
   stopped : Role → Talk → Close
   halted : Visit → Turning → TurnEnd → Halt → Close
+  undelivered : Visit → Turning → List Dispatch → RoundEnd → Halt → Close
 
 -- the role for which a connection is served, by the one that the door told of it: the stated one, or else that
 abbrev pub role_for : ServedRole → Role → Role
@@ -98,16 +108,26 @@ once_served m H (served came talk) = stood (work_of m H talk)
 abbrev pub moment_of : Turning → ℕ
 moment_of turn = min turn.value 253402300799999
 
--- the history once a round was made: its requests were answered, and then its acts were made
-abbrev pub once_made : ℕ → List Event → Round → List Event
-once_made m H r = once_all_done (moment_of r.turn) (once_served m H r.visit) r.turn.acts
+-- the history once a visit was served, and then these acts were made
+abbrev pub once_acted : ℕ → List Event → Visit → Turning → List Event
+once_acted m H visit turn = once_all_done (moment_of turn) (once_served m H visit) turn.acts
 
--- the work of the last talk or turn, behind the rounds that were made
+-- the history once these dispatches were made, at the moment of the turn before them
+abbrev pub once_posted : Turning → List Event → List Dispatch → List Event
+once_posted turn H ps = once_all_dispatched (moment_of turn) H ps
+
+-- the history once a round was made: its requests were answered, then its acts were made, and then its deliveries
+abbrev pub once_made : ℕ → List Event → Round → List Event
+once_made m H r = once_posted r.turn (once_acted m H r.visit r.turn) r.dispatches
+
+-- the work of the last talk, turn or deliveries, behind the rounds that were made
 abbrev pub close_work : ℕ → List Event → Close → Work
 close_work m H finished = went H
 close_work m H unreached = went H
 close_work m H (stopped came talk) = work_of m H talk
 close_work m H (halted visit turn end why) = turn_work (moment_of turn) (once_served m H visit) turn.acts end
+close_work m H (undelivered visit turn ps end why) =
+    end_work (moment_of turn) (once_posted turn (once_acted m H visit turn) ps) end
 
 -- the work of the rounds behind history H of manager m
 abbrev pub service_work : ℕ → List Event → Service → Work
@@ -134,6 +154,7 @@ told_at_close m H finished = []
 told_at_close m H unreached = []
 told_at_close m H (stopped came talk) = behind_told m H talk
 told_at_close m H (halted visit turn end why) = told_in_visit m H visit
+told_at_close m H (undelivered visit turn ps end why) = told_in_visit m H visit
 
 -- those behind all replies that an activity tells, the latest first: behind each its request is answered
 abbrev pub told_by : ℕ → List Event → Activity → List (List Event)
@@ -167,11 +188,12 @@ unonboarded (fault.Full end more) = JournalFull end more
 unonboarded fault.Memory = NoMemory
 unonboarded fault.Disk = SiteFault
 
--- which failure a turn is that didn't go through
+-- which failure a turn is that didn't go through, or deliveries that didn't
 abbrev pub halting : Halt → Failure
 halting (full end more) = JournalFull end more
 halting starving = NoMemory
 halting broken = SiteFault
+halting (bad n) = BadRecord n
 
 -- the cause of a turn that ended in this fault; an event of an act always fits a record
 abbrev pub halt_of : WorkFault → Option Halt
@@ -180,12 +202,20 @@ halt_of working.Memory = Some starving
 halt_of working.Disk = Some broken
 halt_of (working.TooLong n) = None
 
+-- the cause of deliveries that ended in this fault
+abbrev pub undelivered_by : DeliveryFault → Halt
+undelivered_by (delivering.Full end more) = full end more
+undelivered_by delivering.Memory = starving
+undelivered_by delivering.Disk = broken
+undelivered_by (delivering.BadRecord n) = bad n
+
 -- how a run ends after so many rounds
 abbrev pub close_ending : ℕ → Close → Ending
 close_ending n finished = Ok (Done n)
 close_ending n unreached = Err DoorFault
 close_ending n (stopped came talk) = Err SiteFault
 close_ending n (halted visit turn end why) = Err (halting why)
+close_ending n (undelivered visit turn ps end why) = Err (halting why)
 
 -- how a run ends after onboarding
 abbrev pub onboarding_ending : Result Said OnboardFault → Ending

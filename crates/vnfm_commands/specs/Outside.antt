@@ -2,6 +2,8 @@
 use Rattle.std.specs.Prelude.{ℕ, List}
 use Rattle.lcm_mouth.specs.Mouth.{MouthState}
 use Rattle.lcm_mouth.specs.World as session
+use Rattle.notify_outbox.specs.Lent as posting
+use Rattle.notify_outbox.specs.Lent.{Carrier, carrier}
 use Rattle.occ_work.specs.Around as acting
 use Rattle.occ_work.specs.Around.{Around, Peer}
 use Rattle.site_traits.specs.Counts.{CallCounts, SiteCounts}
@@ -16,11 +18,6 @@ pub record Tells : Type 1 where
   pub courier : Type 0
   pub clock : Type 0
 
--- what a courier shows: the posts that it tells, and its counts
-pub record Mail : Type 0 where
-  pub posts : List Post
-  pub counts : CallCounts
-
 -- All of it: the site, which has the journal's file and the jobs, with its counts, the connection, the orchestrator,
 -- the courier and the clock.
 pub record Outside : Type 1 where
@@ -28,7 +25,7 @@ pub record Outside : Type 1 where
   pub counts : SiteCounts
   pub mouth : MouthState
   pub orchestrator : Peer
-  pub courier : Mail
+  pub courier : Carrier
   pub clock : List ℕ
 
 -- what an act sees of it
@@ -38,11 +35,18 @@ acting_tells t = acting.telling t.site t.orchestrator
 abbrev pub acting_outside : Outside → acting.Reach
 acting_outside w = record { site = w.site; counts = w.counts; orchestrator = w.orchestrator }
 
+-- what a delivery sees of it
+abbrev pub posting_tells : Tells → posting.LentTell
+posting_tells t = posting.telling t.site t.courier
+
+abbrev pub posting_outside : Outside → posting.Lent
+posting_outside w = record { site = w.site; counts = w.counts; carrier = w.courier }
+
 -- what stands beside the journal's file
 pub record Beside : Type 0 where
   pub mouth : MouthState
   pub around : Around
-  pub courier : Mail
+  pub courier : Carrier
   pub clock : List ℕ
 
 abbrev pub beside : Outside → Beside
@@ -56,7 +60,7 @@ outside site counts mouth orchestrator calls courier posts clock = record {
   counts = counts;
   mouth = mouth;
   orchestrator = record { state = orchestrator; counts = calls };
-  courier = record { posts = courier; counts = posts };
+  courier = carrier courier posts;
   clock = clock;
 }
 

@@ -11,16 +11,21 @@ use Rattle.lcm_events.specs.declared.events.Event.{Event}
 use Rattle.lcm_events.specs.declared.states.Role.{Role}
 use Rattle.lcm_sessions.specs.Session.{Talk, breaks, life}
 use Rattle.lcm_sessions.specs.Talking.{Attends}
+use Rattle.notify_outbox.specs.Dispatches.{Dispatch}
+use Rattle.notify_outbox.specs.Lent.{Carrier}
+use Rattle.notify_outbox.specs.Rounds as outbox
+use Rattle.notify_outbox.specs.Rounds.{DispatchesDo, RoundEnd, due}
 use Rattle.occ_table.specs.Going.{active}
 use Rattle.occ_work.specs.Around.{Around, Unasked}
 use Rattle.occ_work.specs.Turns.{DeedsDo, EndDoes, IsFor, TurnEnd, through, stopped as by, once_all_done}
 use Rattle.site_traits.specs.Clock.{Gives}
 use Rattle.site_traits.specs.Door.{Comes, opened as has_come}
 use Rattle.vnfm_commands.specs.Course.{Halt, halt_of, halting, Visit, unasked, served, Turning, Round, Close, finished}
-use Rattle.vnfm_commands.specs.Course.{unreached, stopped, halted, Service, close_ending, close_work, moment_of}
-use Rattle.vnfm_commands.specs.Course.{once_made, once_served, service_work, serving, told_at_close, told_by}
-use Rattle.vnfm_commands.specs.Course.{role_for, told_in_visit}
-use Rattle.vnfm_commands.specs.Outside.{Beside, Outside, Tells, acting_tells, beside, session_peers, session_tells}
+use Rattle.vnfm_commands.specs.Course.{unreached, stopped, halted, undelivered, Service, close_ending, close_work}
+use Rattle.vnfm_commands.specs.Course.{moment_of, once_acted, once_made, once_posted, once_served, role_for}
+use Rattle.vnfm_commands.specs.Course.{service_work, serving, told_at_close, told_by, told_in_visit, undelivered_by}
+use Rattle.vnfm_commands.specs.Outside.{Beside, Outside, Tells, acting_tells, beside, posting_tells, session_peers}
+use Rattle.vnfm_commands.specs.Outside.{session_tells}
 use Rattle.vnfm_commands.specs.declared.ending.Failure.{Failure}
 use Rattle.vnfm_commands.specs.declared.ending.Failure.TheVariants.{DoorFault, SiteFault}
 use Rattle.vnfm_commands.specs.declared.rounds.ServedRole.{ServedRole}
@@ -79,10 +84,34 @@ pub record TurnDoes (t : Tells) (m : ℕ) (H : List Event) (turn : Turning) (end
       (once_all_done (moment_of turn) H turn.acts) end between b.around
   pub each : IsFor (active H) turn.acts end
 
--- what a round does, over history H: a visit, and then a turn that went through, over the history that the visit left
+-- What the deliveries of a round do that ended so, over history H and at the moment of its turn: one post is made for
+-- each live subscription for which a notice waits there, in the order of their numbers, each over the history that those
+-- before it left, or up to one that ends in a fault (SOL 003 5.4.20). Nobody but the courier is asked, and running jobs
+-- may have ended by themselves.
+pub record PostingDoes (t : Tells) (m : ℕ) (H : List Event) (turn : Turning) (ps : List Dispatch)
+    (end : RoundEnd) (a b : Beside) : Type 0 where
+  pub mouth : b.mouth ≡ a.mouth
+  pub clock : b.clock ≡ a.clock
+  pub orchestrator : b.around.orchestrator ≡ a.around.orchestrator
+  pub unasked : Unasked (acting_tells t) a.around b.around
+  pub between : Carrier
+  pub posts : DispatchesDo (posting_tells t) m (moment_of turn) H ps a.courier between
+  pub end_does : outbox.EndDoes (posting_tells t) m (moment_of turn) (once_posted turn H ps) end between b.courier
+  pub each : outbox.IsFor (due m H) ps end
+
+-- what a turn that went through does behind a visit, over history H, and deliveries that ended so behind both
+pub record RoundGoes (t : Tells) (m : ℕ) (H : List Event) (visit : Visit) (turn : Turning)
+    (ps : List Dispatch) (end : RoundEnd) (a d : Beside) : Type 0 where
+  pub met : Beside
+  pub turned : Beside
+  pub visits : VisitDoes t m H visit a met
+  pub turns : TurnDoes t m (once_served m H visit) turn through met turned
+  pub posts : PostingDoes t m (once_acted m H visit turn) turn ps end turned d
+
+-- what a round does, over history H: a visit, then a turn that went through, over the history that the visit left, and
+-- then deliveries that did, over the one that the turn left
 abbrev pub RoundDoes : Tells → ℕ → List Event → Round → Beside → Beside → Type 0
-RoundDoes t m H r a c = (b : Beside) × VisitDoes t m H r.visit a b
-    × TurnDoes t m (once_served m H r.visit) r.turn through b c
+RoundDoes t m H r a b = RoundGoes t m H r.visit r.turn r.dispatches outbox.through a b
 
 -- the rounds were made, each over the history that those before it left, and from where they ended
 abbrev pub RoundsDo : Tells → ℕ → List Event → List Round → Beside → Beside → Type 0
@@ -101,6 +130,17 @@ IsTurned (Ok done) through = Unit {0}
 IsTurned (Err why) end = (cause : Halt) × FailsBy end cause × (why ≡ halting cause)
 IsTurned answer other = ⊥
 
+-- the end of the deliveries is one for this cause
+abbrev pub StopsBy : RoundEnd → Halt → Type 0
+StopsBy outbox.through why = ⊥
+StopsBy (outbox.stopped s c cause) why = why ≡ undelivered_by cause
+
+-- how deliveries ended, by what they answer: they went through, or for this failure
+abbrev pub IsPosted : Result (Unit {0}) Failure → RoundEnd → Type 0
+IsPosted (Ok done) outbox.through = Unit {0}
+IsPosted (Err why) end = (cause : Halt) × StopsBy end cause × (why ≡ halting cause)
+IsPosted answer other = ⊥
+
 -- the rounds ended at the door: waiting for a connection failed, or the disk did in a talk
 abbrev pub DoorEnds : session.WorldTells → ℕ → List Event → Close → Peers → Peers → Type 0
 DoorEnds t m H unreached a b = ComesNot t a b
@@ -116,6 +156,8 @@ CloseDoes t m H (stopped came talk) a b = DoorEnds (session_tells t) m H (stoppe
     (session_peers b) × AsksNobody t a b
 CloseDoes t m H (halted visit turn end why) a c =
     (b : Beside) × VisitDoes t m H visit a b × TurnDoes t m (once_served m H visit) turn end b c × FailsBy end why
+CloseDoes t m H (undelivered visit turn ps end why) a b =
+    RoundGoes t m H visit turn ps end a b × StopsBy end why
 
 -- the talk of this visit, where there was one, was held for the stated role, or else for the one that the door told
 abbrev pub IsVisitFor : ServedRole → Visit → Type 0
@@ -130,6 +172,7 @@ AreFor role (r ∷ before) = IsVisitFor role r.visit × AreFor role before
 abbrev pub ClosesFor : ServedRole → Close → Type 0
 ClosesFor role (stopped came talk) = talk.role ≡ role_for role came
 ClosesFor role (halted visit turn end why) = IsVisitFor role visit
+ClosesFor role (undelivered visit turn ps end why) = IsVisitFor role visit
 ClosesFor role other = Unit {0}
 
 -- what rounds do to all that stands beside the journal: they were made, and ended so, and all talks were held for the

@@ -46,7 +46,7 @@ pub fn obey<S: Site, D: Door, O: Orchestrator, C: Courier, K: Clock>(
         (C.state courier.new) (C.counts courier.new) (K.state clock.new))
         × (result ≡ ending_of course) }
     ensures unasked { ¬ (AreWordsOf Once words.now) → orchestrator.new ≡ orchestrator.old }
-    ensures unposted { courier.new ≡ courier.old }
+    ensures unposted { ¬ (AreWordsOf Once words.now) → courier.new ≡ courier.old }
     ensures usage { (result ≡ Err Failure.Usage) ↔ (settings_of words.now ≡ None) }
     ensures disk { DiskFails (result ≡ Err Failure.SiteFault) (S.counts site.old) (S.counts site.new) }
     ensures untouched_jobs { ¬ (AreWordsOf Once words.now) → CountJobsAlike (S.counts site.old) (S.counts site.new) }
@@ -75,7 +75,7 @@ fn perform<S: Site, D: Door, O: Orchestrator, C: Courier, K: Clock>(
         (C.state courier.new) (C.counts courier.new) (K.state clock.new))
         × (result ≡ ending_of course) }
     ensures unasked { settings.now.command ≢ Once → orchestrator.new ≡ orchestrator.old }
-    ensures unposted { courier.new ≡ courier.old }
+    ensures unposted { settings.now.command ≢ Once → courier.new ≡ courier.old }
     ensures disk { DiskFails (result ≡ Err Failure.SiteFault) (S.counts site.old) (S.counts site.new) }
     ensures untouched_jobs { settings.now.command ≢ Once → CountJobsAlike (S.counts site.old) (S.counts site.new) }
 {

@@ -13,6 +13,7 @@ use executor::OpenFault;
 use itoa::Buffer;
 use journal_core::CreateFault;
 use lcm_sessions::{DescriptorRefusal, OnboardFault, Onboarded};
+use notify_outbox::DeliveryFault;
 use site_traits::{Sink, SinkFailed};
 use vnfd_reader::VnfdFault;
 use vnfm_base::Name;
@@ -43,7 +44,8 @@ pub enum Failure {
     NotAJournal(u64),
     /// There is no memory.
     NoMemory,
-    /// This record of the journal, from 1, is broken, is no event, or isn't allowed after those before it.
+    /// This record of the journal, from 1, is broken, is no event, or isn't allowed after those before it; or it isn't
+    /// the event any more that a notice tells of, which never comes where the site tells its content.
     BadRecord(u64),
     /// The journal has no room.
     JournalFull {
@@ -326,6 +328,21 @@ impl From<OnboardFault> for Failure {
             OnboardFault::Full { end, more } => Failure::JournalFull { end, more },
             OnboardFault::Memory => Failure::NoMemory,
             OnboardFault::Disk => Failure::SiteFault,
+        }
+    }
+}
+
+impl From<DeliveryFault> for Failure {
+    ghost use Rattle.vnfm_commands.specs.Course.{halting, undelivered_by};
+
+    ghost from_gives = { λ fault failure. failure ≡ halting (undelivered_by fault) };
+
+    fn from(fault: DeliveryFault) -> Failure {
+        match fault {
+            DeliveryFault::BadRecord(n) => Failure::BadRecord(n),
+            DeliveryFault::Disk => Failure::SiteFault,
+            DeliveryFault::Memory => Failure::NoMemory,
+            DeliveryFault::Full { end, more } => Failure::JournalFull { end, more },
         }
     }
 }

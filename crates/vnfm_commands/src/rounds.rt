@@ -1,24 +1,28 @@
-//! Rounds: in each the door is asked for a connection, which is served; then the clock is read, and a turn is made.
+//! Rounds: in each the door is asked for a connection, which is served; then the clock is read, a turn is made, and
+//! then the deliveries.
 ghost use Rattle.std.specs.Prelude.{◌≡◌, ◌≢◌, ℕ, List, Some, length, option_map};
 ghost use Rattle.executor.specs.Managed.{IsReady};
 ghost use Rattle.lcm_mouth.specs.World as session;
 ghost use Rattle.lcm_events.specs.declared.events.Event.{Event};
+ghost use Rattle.notify_outbox.specs.Dispatches.{Dispatch};
+ghost use Rattle.notify_outbox.specs.Lent as posting;
+ghost use Rattle.notify_outbox.specs.Rounds.{DeliversAll, RoundEnd};
 ghost use Rattle.occ_work.specs.Around as acting;
 ghost use Rattle.occ_work.specs.Around.{DiskFails};
+ghost use Rattle.occ_work.specs.Deeds.{Deed, point};
 ghost use Rattle.occ_work.specs.Turns.{TurnEnd, Turns};
-ghost use Rattle.site_traits.specs.Clock.{Gives};
 ghost use Rattle.site_traits.specs.Counts.{OnlyDiskFails};
-ghost use Rattle.vnfm_commands.specs.Course.{IsCount, Service, Turning, close_ending, halt_of, halting, moment_of};
-ghost use Rattle.vnfm_commands.specs.Course.{role_for};
+ghost use Rattle.vnfm_commands.specs.Course.{IsCount, Service, close_ending, halt_of, halting, role_for};
 ghost use Rattle.vnfm_commands.specs.Outside.{outside, telling};
-ghost use Rattle.vnfm_commands.specs.Rounds.{IsMet, IsOne, Makes, MakesOne, Meets, Met, MetFor, One, OneFor, IsTurned};
-ghost use Rattle.occ_work.specs.Deeds.{point};
+ghost use Rattle.vnfm_commands.specs.Rounds.{IsMet, IsOne, IsPosted, IsTurned, Makes, MakesOne, Meets, Met, MetFor};
+ghost use Rattle.vnfm_commands.specs.Rounds.{One, OneFor};
 
 use crate::ending::{Ending, Failure, Report};
 use executor::{Manager, WorkFault, what_was_told_of_stays, works_add_up, works_with_jobs_add_up};
 use lcm_events::Role;
 use lcm_mouth::Mouth;
 use lcm_sessions::{Closed, answer_session};
+use notify_outbox::deliver_all;
 use occ_work::turn;
 use site_traits::{Clock, Courier, Door, NextAnswer, Orchestrator, Site};
 use std::alloc::Global;
@@ -48,9 +52,11 @@ impl ServedRole {
 /// Makes as many rounds as are wanted, whose connections are served for this role, and says how the run ends.
 ///
 /// A round is: the door is asked for a connection once; one that came is served; then the clock is read, and a turn is
-/// made: one act for each occurrence whose grant is asked for or whose changes are made. The first round in which
-/// waiting for a connection fails, or the disk, or a turn finds the journal full or no memory, is the last, and the
-/// acts before that stand. Source: SOL 003 clauses 5 and 9; rounds are an own rule, docs/FORMATS.md.
+/// made: one act for each occurrence whose grant is asked for or whose changes are made; then, at the same moment, one
+/// delivery is made for each live subscription: its first notice that waits is posted, once. The first round in which
+/// waiting for a connection fails, or the disk, or in which a turn or a delivery finds the journal full or no memory,
+/// or a delivery a record that isn't its event any more, is the last, and the acts and deliveries before that stand.
+/// Source: SOL 003 clauses 5 and 9; rounds are an own rule, docs/FORMATS.md.
 pub fn make_rounds<S: Site, D: Door, O: Orchestrator, C: Courier, K: Clock>(
     alloc: Global,
     wanted: u32,
@@ -71,7 +77,6 @@ pub fn make_rounds<S: Site, D: Door, O: Orchestrator, C: Courier, K: Clock>(
         (C.state courier.new) (C.counts courier.new) (K.state clock.new))
         × (service.role ≡ role) × IsCount wanted (length service.rounds) service.close
         × (result ≡ close_ending (length service.rounds) service.close) }
-    ensures unposted { courier.new ≡ courier.old }
     ensures disk { DiskFails (result ≡ Err Failure.SiteFault) (S.counts site.old) (S.counts site.new) }
 {
     works_add_up::<S>();
@@ -96,7 +101,8 @@ pub fn make_rounds<S: Site, D: Door, O: Orchestrator, C: Courier, K: Clock>(
     Ok(Report::Done(made))
 }
 
-/// Asks for one connection, serves it, and makes the turn of the round.
+/// Asks for one connection, serves it, and makes the turn of the round and its deliveries, both at the moment that the
+/// clock gives behind the connection.
 fn make_round<S: Site, D: Door, O: Orchestrator, C: Courier, K: Clock>(
     alloc: Global,
     manager: &mut Manager<S>,
@@ -115,16 +121,15 @@ fn make_round<S: Site, D: Door, O: Orchestrator, C: Courier, K: Clock>(
         (outside (S.state site.new) (S.counts site.new) mouth.new (O.state orchestrator.new) (O.counts orchestrator.new)
         (C.state courier.new) (C.counts courier.new) (K.state clock.new))
         × OneFor role one × IsOne result one }
-    ensures unposted { courier.new ≡ courier.old }
     ensures disk { DiskFails (result ≡ Err Failure.SiteFault) (S.counts site.old) (S.counts site.new) }
 {
     works_add_up::<S>();
     works_with_jobs_add_up::<S>();
     what_was_told_of_stays::<S>();
-    match meet(alloc, manager, site, mouth, clock, role) {
-        Ok(()) => take_turn(alloc, manager, site, orchestrator, clock),
-        Err(why) => Err(why),
-    }
+    meet(alloc, manager, site, mouth, clock, role)?;
+    let now = Moment::of(clock.now());
+    take_turn(alloc, manager, site, orchestrator, now)?;
+    post_notices(alloc, manager, site, courier, now)
 }
 
 /// Asks the door for one connection, and serves one that came.
@@ -160,25 +165,23 @@ fn meet<S: Site, D: Door, K: Clock>(
     }
 }
 
-/// Reads the clock, and makes a turn at that moment.
-fn take_turn<S: Site, O: Orchestrator, K: Clock>(
+/// Makes the turn of a round.
+fn take_turn<S: Site, O: Orchestrator>(
     alloc: Global,
     manager: &mut Manager<S>,
     site: &mut S,
     orchestrator: &mut O,
-    clock: &mut K,
+    now: Moment,
 ) -> Result<(), Failure>
     requires ready { (H : List Event) × IsReady S.tells manager.old H (S.state site.old) }
     ensures turns { (H : List Event) → IsReady S.tells manager.old H (S.state site.old)
-        → (turning : Turning) × (end : TurnEnd)
-        × Turns (acting.telling S.tells O.tells) (point manager.old.ledger.manager (moment_of turning) H) turning.acts
-        end manager.new
+        → (acts : List Deed) × (end : TurnEnd)
+        × Turns (acting.telling S.tells O.tells) (point manager.old.ledger.manager now H) acts end manager.new
         (acting.reach (S.state site.old) (S.counts site.old) (O.state orchestrator.old) (O.counts orchestrator.old))
         (acting.reach (S.state site.new) (S.counts site.new) (O.state orchestrator.new) (O.counts orchestrator.new))
-        × (K.tells → Gives turning.value (K.state clock.old) (K.state clock.new)) × IsTurned result end }
+        × IsTurned result end }
     ensures disk { DiskFails (result ≡ Err Failure.SiteFault) (S.counts site.old) (S.counts site.new) }
 {
-    let now = Moment::of(clock.now());
     match turn(alloc, manager, site, orchestrator, now) {
         Ok(_) => Ok(()),
         Err(fault) => Err(failure_of(fault)),
@@ -195,5 +198,29 @@ fn failure_of(fault: WorkFault) -> Failure
         WorkFault::Memory => Failure::NoMemory,
         WorkFault::Disk => Failure::SiteFault,
         WorkFault::TooLong(_) => unreachable!(),
+    }
+}
+
+/// Makes the deliveries of a round.
+fn post_notices<S: Site, C: Courier>(
+    alloc: Global,
+    manager: &mut Manager<S>,
+    site: &mut S,
+    courier: &mut C,
+    now: Moment,
+) -> Result<(), Failure>
+    requires ready { (H : List Event) × IsReady S.tells manager.old H (S.state site.old) }
+    ensures posts { (H : List Event) → IsReady S.tells manager.old H (S.state site.old)
+        → (dispatches : List Dispatch) × (end : RoundEnd)
+        × DeliversAll (posting.telling S.tells C.tells) (posting.point manager.old.ledger.manager now H) dispatches end
+        manager.new
+        (posting.lent (S.state site.old) (S.counts site.old) (C.state courier.old) (C.counts courier.old))
+        (posting.lent (S.state site.new) (S.counts site.new) (C.state courier.new) (C.counts courier.new))
+        × IsPosted result end }
+    ensures disk { OnlyDiskFails (result ≡ Err Failure.SiteFault) (S.counts site.old) (S.counts site.new) }
+{
+    match deliver_all(alloc, manager, site, courier, now) {
+        Ok(_) => Ok(()),
+        Err(fault) => Err(Failure::from(fault)),
     }
 }

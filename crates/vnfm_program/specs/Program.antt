@@ -7,6 +7,7 @@ use Rattle.command_line.specs.declared.options.Command.TheVariants.{Init, Onboar
 use Rattle.command_line.specs.declared.options.Settings.{Settings}
 use Rattle.host_calls.specs.Files.{FilesState, Hold}
 use Rattle.lcm_mouth.specs.Mouth.{MouthState}
+use Rattle.notify_outbox.specs.Lent.{Carrier}
 use Rattle.occ_work.specs.Around.{Peer}
 use Rattle.outside_edges.specs.Having.{LeavesAll, Seeks}
 use Rattle.outside_edges.specs.Site.{IsExplained, IsHeld, counts_of, state_in}
@@ -23,7 +24,7 @@ use Rattle.site_traits.specs.Site.{SiteState}
 use Rattle.standard_streams.specs.Numbers.{AreHeld, Numbers}
 use Rattle.vnfm_cli.specs.Promises.{Ground, Promises}
 use Rattle.vnfm_commands.specs.Ending.{Output}
-use Rattle.vnfm_commands.specs.Outside.{Mail, Outside}
+use Rattle.vnfm_commands.specs.Outside.{Outside}
 use Rattle.vnfm_commands.specs.Outside as run
 use Rattle.vnfm_program.specs.Output.{Explains, Prints, Starves}
 
@@ -35,7 +36,7 @@ pub record Machine (N H F J : Type 0) : Type 0 where
   pub files : H
   pub site : RealSite F J
   pub orchestrator : Peer
-  pub courier : Mail
+  pub courier : Carrier
   pub clock : List ℕ
   pub lines : Output
   pub errors : Output

@@ -47,6 +47,7 @@ impl<
     L: Sink,
     E: Sink,
 > Model for Machine<N, H, J, Q, C, K, L, E> {
+    ghost use Rattle.notify_outbox.specs.Lent.{carrier};
     ghost use Rattle.vnfm_commands.specs.Ending.{output_of};
     ghost use Rattle.vnfm_program.specs.Program.{Machine};
 
@@ -57,7 +58,7 @@ impl<
       files = m.files;
       site = m.site;
       orchestrator = record { state = Q.state m.orchestrator; counts = Q.counts m.orchestrator };
-      courier = record { posts = C.state m.courier; counts = C.counts m.courier };
+      courier = carrier (C.state m.courier) (C.counts m.courier);
       clock = K.state m.clock;
       lines = output_of L.state L.counts m.lines;
       errors = output_of E.state E.counts m.errors;

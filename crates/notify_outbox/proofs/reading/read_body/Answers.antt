@@ -1,9 +1,9 @@
 -- The event is read back, or not.
-use Rattle.std.proofs.Common.{◌<◌, ◌≡◌, ◌∙◌, Err, Some, ap, arith, subst, sym, ℕ}
+use Rattle.std.proofs.Common.{◌≡◌, ◌∙◌, Err, Some, ap, arith, subst, sym, ℕ}
 use Rattle.std.proofs.lemmas.Result.{err_from_is_err_and}
 use Rattle.notice_table.specs.Queues.{first_waiting}
 use Rattle.notify_outbox.proofs.NoticeLemmas.{parted_within, waits_parted}
-use Rattle.notify_outbox.proofs.ReadLemmas.{body_read, one_manager, read_amiss, read_well, unread}
+use Rattle.notify_outbox.proofs.ReadLemmas.{body_read, read_well, unread}
 use Rattle.notify_outbox.proofs.reading.read_body.Goals as goal
 
 pub event_at-requires-clause-some : goal.event_at-requires-clause-some

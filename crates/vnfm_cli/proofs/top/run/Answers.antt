@@ -6,7 +6,8 @@ use Rattle.vnfm_commands.specs.Runs.{IsOrYields, MayEndWith}
 use Rattle.vnfm_commands.proofs.DiskLemmas.{disk_as, lost_line, one_fault}
 use Rattle.vnfm_cli.proofs.DoorLemmas.{course_fails, fails_with}
 use Rattle.vnfm_cli.proofs.EndingLemmas.{is_status, put_told, seven_lost, status_told, told_by, told_or_yields, told_same, where_told}
-use Rattle.vnfm_cli.proofs.ExactLemmas.{bad_record_ending, complete_ending, door_cause, no_journal_ending, taken_ending, told_so, IsTold}
+use Rattle.vnfm_cli.proofs.ExactLemmas.{bad_record_ending, complete_ending, door_cause, ends_good, no_journal_ending, taken_ending}
+use Rattle.vnfm_cli.proofs.ExactLemmas.{told_so, IsTold}
 use Rattle.vnfm_cli.proofs.HeadlineLemmas.{acknowledged, leaves_fresh, leaves_sound}
 use Rattle.vnfm_cli.proofs.top.run.Goals as goal
 
@@ -21,7 +22,8 @@ returns-clause-promises g c =
     let put = c.finish.ensures.put in
     let is : c.finish.result ≡ told_status c.finish.ensures.put (status_of (ending_of runs.0)) = rw (← runs.2) at in
     let Told : ℕ → Type 0 = IsTold g.S.Site.tells c.args.words.now a in
-    let told = told_so g.S.Site.tells c.args.words.now a b runs.0 runs.1.words_are does.site in
+    let good = ends_good _ runs.0 _ _ does.beside in
+    let told = told_so g.S.Site.tells c.args.words.now a b runs.0 runs.1.words_are does.site good in
     let failing = course_fails _ _ runs.0 _ _ runs.1.words_are does.beside in
     record {
       course = runs.0;
@@ -74,13 +76,13 @@ returns-clause-promises g c =
           let P : ℕ → Type 0 = λ status. MayEndWith command status in
           subst P (sym (put_told _ _ _ is (λ lost. sink (lost_line _ _ _ c.finish.ensures.counts lost))))
           (complete_ending c.files_are_one_thing.ensures.unmade c.files_are_one_thing.ensures.foreign c.files_are_one_thing.ensures.headed
-          c.a_legal_history_has_no_bad_record.ensures command runs.0 c.args.words.now a b are start runs.1.words_are (does.site tells)
+          c.a_legal_history_has_no_bad_record.ensures _ tells command runs.0 c.args.words.now a b are start runs.1.words_are (does.site tells)
           (λ fault. disk (one_fault _ _ (c.obey-ending.ensures.disk.rose (runs.2 ∙ fault))))
-          (λ fault. door (door_cause command c.args.words.now _ _ _ are failing fault)));
+          (λ fault. door (door_cause command c.args.words.now _ _ _ are failing fault)) good);
     }
 
 pub returns-clause-unasked : goal.returns-clause-unasked
 returns-clause-unasked g c = search rules
 
-pub returns-clause-untouched : goal.returns-clause-untouched
-returns-clause-untouched g c = search rules
+pub returns-clause-unposted : goal.returns-clause-unposted
+returns-clause-unposted g c = search rules

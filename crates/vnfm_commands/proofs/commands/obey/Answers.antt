@@ -21,3 +21,7 @@ returns-clause-unasked g c = λ other. c.perform.ensures.unasked
 pub returns-clause-untouched_jobs : goal.returns-clause-untouched_jobs
 returns-clause-untouched_jobs g c = λ other. c.perform.ensures.untouched_jobs
     (λ is. other (record { settings = c.in_ok-settings.settings; set = c.in_ok-settings.ensures; is = is }))
+
+pub returns-clause-unposted : goal.returns-clause-unposted
+returns-clause-unposted g c = λ other. c.perform.ensures.unposted
+    (λ is. other (record { settings = c.in_ok-settings.settings; set = c.in_ok-settings.ensures; is = is }))

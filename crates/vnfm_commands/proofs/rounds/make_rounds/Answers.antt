@@ -1,5 +1,5 @@
 -- The rounds grow by one, or end.
-use Rattle.std.proofs.Common.{Ok, ap, arith, refl, ◌∙◌}
+use Rattle.std.proofs.Common.{Ok, ap, arith}
 use Rattle.vnfm_commands.specs.declared.ending.Report.TheVariants.{Done}
 use Rattle.vnfm_commands.proofs.DiskLemmas.{disk_as, disk_last, disk_untouched, round_fails}
 use Rattle.vnfm_commands.proofs.RoundLemmas.{all_made, none_made, one_round_more, ready_so_far, rounds_ended}
@@ -11,7 +11,6 @@ rounds-init g c = (
       (c.works_with_jobs_add_up.ensures.works c.args.site.now c.args.site.now),
   disk_untouched ⊥ _ (λ never. never),
   omega arith,
-  refl,
 )
 
 pub make_round-requires : goal.make_round-requires
@@ -29,7 +28,6 @@ rounds-preserved g c =
           (λ H ready. c.in-Ok.ensures.makes H ready),
       disk_last ⊥ _ _ _ c.rounds.invariant.1 (disk_as _ ⊥ _ _ c.in-Ok.ensures.disk (λ wrong. cc wrong) (λ wrong. absurd wrong)),
       omega (arith, less),
-      c.make_round.ensures.unposted ∙ c.rounds.invariant.3,
     )
 
 pub returns-in-Err-clause-makes : goal.returns-in-Err-clause-makes

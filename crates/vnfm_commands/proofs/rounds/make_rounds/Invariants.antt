@@ -1,5 +1,5 @@
 -- The rounds so far were made, and no disk call failed.
-use Rattle.std.proofs.Common.{◌-◌, ◌≡◌, ◌≤◌}
+use Rattle.std.proofs.Common.{◌-◌, ◌≤◌}
 use Rattle.occ_work.specs.Around.{DiskFails}
 use Rattle.vnfm_commands.specs.Outside.{outside, telling}
 use Rattle.vnfm_commands.proofs.RoundLemmas.{RoundsSoFar}
@@ -15,7 +15,6 @@ invariant-rounds g l = RoundsSoFar (telling g.S.Site.tells g.D.Door.tells g.O.Or
     (g.O.Orchestrator.counts l.orchestrator) (g.C.Courier.state l.courier) (g.C.Courier.counts l.courier) (g.K.Clock.state l.clock))
     × DiskFails ⊥ (g.S.Site.counts l.fn.site) (g.S.Site.counts l.site)
     × (l.made ≤ l.fn.wanted)
-    × (l.courier ≡ l.fn.courier)
 
 abbrev pub decreases-rounds : goal.decreases-rounds
 decreases-rounds g l = l.fn.wanted - l.made

@@ -1,4 +1,4 @@
--- A turn was made at the moment of what the clock gave.
+-- A turn went through, or ended in a fault.
 use Rattle.std.proofs.Common.{Ok, Err, ap}
 use Rattle.occ_work.specs.Turns.{endings}
 use Rattle.vnfm_commands.proofs.DiskLemmas.{turn_fails}
@@ -11,21 +11,19 @@ failure_of-requires g c = record { short = λ n is. c.in-Err.ensures.short n (ap
 pub returns-in-Ok-clause-turns : goal.returns-in-Ok-clause-turns
 returns-in-Ok-clause-turns g c = λ H ready.
     let it = c.in-Ok.ensures.turns H ready in (
-      record { value = c.now.result; acts = it.0 },
+      it.0,
       it.1,
-      rw c.of-now.ensures at it.2,
-      c.now.ensures.told,
-      turned (Ok c.in-Ok.field-0) (Ok (tt {0})) (endings c.of-now.result H it.0) it.1 it.3 (tt {0}),
+      it.2,
+      turned (Ok c.in-Ok.field-0) (Ok (tt {0})) (endings c.args.now H it.0) it.1 it.3 (tt {0}),
     )
 
 pub returns-in-Err-clause-turns : goal.returns-in-Err-clause-turns
 returns-in-Err-clause-turns g c = λ H ready.
     let it = c.in-Err.ensures.turns H ready in (
-      record { value = c.now.result; acts = it.0 },
+      it.0,
       it.1,
-      rw c.of-now.ensures at it.2,
-      c.now.ensures.told,
-      turned (Err c.in-Err.fault) (Err c.failure_of.result) (endings c.of-now.result H it.0) it.1 it.3 c.failure_of.ensures,
+      it.2,
+      turned (Err c.in-Err.fault) (Err c.failure_of.result) (endings c.args.now H it.0) it.1 it.3 c.failure_of.ensures,
     )
 
 pub returns-in-Err-clause-disk : goal.returns-in-Err-clause-disk
