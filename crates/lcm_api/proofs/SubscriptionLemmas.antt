@@ -1,6 +1,6 @@
 -- The subscription of a role that an identifier names, and what a request to subscribe records.
 use Rattle.std.proofs.Common.{◌≡◌, ◌≤◌, ◌<◌, ◌+◌, ◌==◌, ◌∙◌, ◌&&◌, ℕ, Bool, true, false, not, List, [], ◌∷◌, ◌++◌, length, map, reverse}
-use Rattle.std.proofs.Common.{filter, find, filter_map, Option, Some, None, is_some, option_map, option_and_then, ap, refl}
+use Rattle.std.proofs.Common.{filter, find, Option, Some, None, is_some, option_map, option_and_then, ap, refl}
 use Rattle.std.proofs.Common.{sym, subst, arith, eqb-true, All, inl, inr}
 use Rattle.std.proofs.lemmas.Bool.{le-leb, leb-true, lt-leb}
 use Rattle.std.proofs.lemmas.List.Elements.{All-cons, All-nil}
@@ -43,6 +43,7 @@ use Rattle.lcm_replies.specs.declared.reply.Reply.{Reply}
 use Rattle.serde_json.specs.Data.{Data, array}
 use Rattle.serde_json.specs.View.{items_of}
 use Rattle.serde_json.specs.Written.{compact_text}
+use Rattle.subscription_asks.proofs.FilterLemmas.{few_mapped}
 use Rattle.subscription_asks.specs.Records.{SubscribedEventsFitRecords}
 use Rattle.subscription_asks.specs.Refusals.{content_refusal}
 use Rattle.vnfm_base.specs.Ident.{IsIdentNumber}
@@ -54,15 +55,6 @@ use Rattle.lcm_api.specs.Subscriptions.{end_subscribed, named_subscription, subs
 use Rattle.lcm_api.specs.Subscriptions.{unsubscription}
 use Rattle.lcm_api.specs.declared.record.Planned.TheVariants.{Records}
 use Rattle.lcm_api.proofs.IdentLemmas.{IsReading, agrees, differs, find_none, find_same}
-
--- the numbers of subscriptions
-
-few_mapped : {A B : Type 0} (form : A → Option B) (xs : List A) → length (filter_map form xs) ≤ length xs
-few_mapped form [] = omega arith
-few_mapped {B = B} form (x ∷ xs) = of (form x) refl (few_mapped form xs) where
-  of : (o : Option B) → form x ≡ o → length (filter_map form xs) ≤ length xs → length (filter_map form (x ∷ xs)) ≤ length (x ∷ xs)
-  of None e short = rw e (omega arith)
-  of (Some y) e short = rw e (omega arith)
 
 -- an identifier can carry the number of each subscription
 numbered : (width m : ℕ) (H : List Event) (x : Subscription) → IsLegalWithin width m H → length H < 4611686018427387903

@@ -93,7 +93,8 @@ content_text ProductsNotServed = codes "vnfProductsFromProviders is not served"
 abbrev pub subscribe_judged : ℕ → List Event → ℕ → Role → SubscriptionBody → Bool → Option SubscriptionRefusal → Planned
 subscribe_judged m H now role body last (Some why) = refused 422 (content_text why) last
 subscribe_judged m H now role body last None =
-    if nat_le MAX_SUBSCRIPTIONS (length (live_subscriptions H role)) then refused 507 (codes "too many subscriptions") last
+    if nat_le MAX_SUBSCRIPTIONS (length (live_subscriptions H role))
+    then refused 507 (codes "too many subscriptions") last
     else Records (subscription_asked H now role body) (subscribed m (subscriptions_made H + 1) body last)
 
 -- a request to subscribe whose body says this

@@ -149,7 +149,8 @@ least_in f (n ∷ ns) place q falls e (inl same) p =
 
 -- the place of Subscribed, event by event
 subscribed_place : (s : ℕ) (H : List Event) (k : EventKind) (p : ℕ) → subscribed_in_place s H k ≡ Some p → p ≡ length H + 1
-subscribed_place s H (Subscribed n role callback f) p e = by_test (n == s) (λ yes. let is : Some (length H + 1) ≡ Some p = rw yes at e in cc)
+subscribed_place s H (Subscribed n role callback f) p e =
+    by_test (n == s) (λ yes. let is : Some (length H + 1) ≡ Some p = rw yes at e in cc)
     (λ no. let is : None ≡ Some p = rw no at e in cc)
 subscribed_place s H k p e = cc
 
@@ -195,7 +196,8 @@ greatest_more f g (n ∷ ns) on =
     (λ no. by_test (g n) (λ more. rw (no, more) (omega (arith, rest))) (λ none. rw (no, none) rest))
 
 far_rises : (a b : ℕ) (x : Option (ℕ × Bool)) (ps : Sent) → a ≤ b
-    → greatest (a ∷ filter (passed ps) (map (λ p. p.0) ps)) ≤ greatest (b ∷ filter (passed (cons_option x ps)) (map (λ p. p.0) (cons_option x ps)))
+    → greatest (a ∷ filter (passed ps) (map (λ p. p.0) ps))
+    ≤ greatest (b ∷ filter (passed (cons_option x ps)) (map (λ p. p.0) (cons_option x ps)))
 far_rises a b None ps le = omega (arith, le)
 far_rises a b (Some p) ps le =
     let low = greatest_more (passed ps) (passed (p ∷ ps)) (map (λ p. p.0) ps) (λ n e. passed_more p ps n e) in

@@ -14,9 +14,9 @@ pub fn notices_stay()
     ensures { NoticesStay }
 {}
 
-/// The notices of a subscription are posted in their order: the first that waits is no earlier one later on, was neither
-/// taken nor refused five times, and each before it was, so that one is posted again only until then and none is
-/// skipped. And what is posted in a round tells of an event that was there when its deliveries began.
+/// The notices of a subscription are posted in their order: the first that waits is no earlier one later on, was
+/// neither taken nor refused five times, and each before it was, so that one is posted again only until then and none
+/// is skipped. And what is posted in a round tells of an event that was there when its deliveries began.
 ///
 /// Source: SOL 003 5.4.20 (Notification endpoint).
 pub fn notices_go_in_order()

@@ -29,7 +29,8 @@ inside : {A : Type 0} (P : A → Type 0) (read : List ℕ → Data → Result A 
 inside P read name None each = tt
 inside P read name (Some d) each = both P (λ x. IfSome x P) (read name d) (λ a. Ok (Some a)) (each d) (λ a is. is)
 
-few_mapped : {A B : Type 0} (form : A → Option B) (xs : List A) → length (filter_map form xs) ≤ length xs
+-- what is made of some entries of a list are no more than the entries
+pub few_mapped : {A B : Type 0} (form : A → Option B) (xs : List A) → length (filter_map form xs) ≤ length xs
 few_mapped form [] = omega arith
 few_mapped {B = B} form (x ∷ xs) = of (form x) refl (few_mapped form xs) where
   of : (o : Option B) → form x ≡ o → length (filter_map form xs) ≤ length xs → length (filter_map form (x ∷ xs)) ≤ length (x ∷ xs)
@@ -91,10 +92,11 @@ instances_few d =
 
 within_object : {A : Type 0} (P : A → Type 0) (members : Data → Result A BodyFault) (name : List ℕ) (d : Data) → IfOk (members d) P
     → IfOk (inside_object members name d) P
-within_object P members name d is = both (λ _. Unit {0}) P (object_or_wrong name d) (λ _. members d) (any (object_or_wrong name d)) (λ _ _. is) where
-  any : (r : Result (Unit {0}) BodyFault) → IfOk r (λ _. Unit {0})
-  any (Ok done) = tt
-  any (Err why) = tt
+within_object P members name d is =
+    both (λ _. Unit {0}) P (object_or_wrong name d) (λ _. members d) (any (object_or_wrong name d)) (λ _ _. is) where
+      any : (r : Result (Unit {0}) BodyFault) → IfOk r (λ _. Unit {0})
+      any (Ok done) = tt
+      any (Err why) = tt
 
 about_few : (d : Data) → IfOk (about_in d) AreFewNames
 about_few d =

@@ -1,2 +1,2 @@
-mod FilterLemmas
+pub mod FilterLemmas
 pub mod SizeLemmas

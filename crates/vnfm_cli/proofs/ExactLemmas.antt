@@ -28,7 +28,8 @@ use Rattle.site_traits.specs.Site.{SiteState}
 use Rattle.vnfm_cli.specs.Causes.{FailsAtDoor}
 use Rattle.vnfm_cli.proofs.EndingLemmas.{Where}
 use Rattle.vnfm_commands.specs.Course.{Course, misused, starved, making, unopened, opened, Close, finished, unreached, stopped, halted}
-use Rattle.vnfm_commands.specs.Course.{undelivered, full, starving, broken, bad as amiss, serving, onboarding, close_ending, ending_of, halt_of}
+use Rattle.vnfm_commands.specs.Course.{undelivered, full, starving, broken, bad as amiss, serving, onboarding, close_ending, ending_of}
+use Rattle.vnfm_commands.specs.Course.{halt_of}
 use Rattle.vnfm_commands.specs.Course.{moment_of, once_acted, once_made, once_posted, onboarding_ending, undelivered_by}
 use Rattle.vnfm_commands.specs.Course.{unopened_failure, IsOf, IsOfSettings, IsOfWords}
 use Rattle.vnfm_commands.specs.Ending.{failure_status, status_of}
@@ -400,8 +401,10 @@ module _ (whole_unmade : IsWholeOrUnmade) (whole_foreign : IsWholeOrForeign) (he
   complete_once tells told starved words a b m H are sound of at disk door good = inr (inl refl)
   complete_once tells told (making number result) words a b m H are sound of at disk door good = let it =
       of_command Once words (making number result) are of in never_served _ it.0 Once Init it.1 it.2.0 (λ wrong. cc)
-  complete_once tells told (unopened why) words a b m H are sound of at disk door good = inr (inl (sound_unopened why m H a b sound at disk))
-  complete_once tells told (opened start (serving service)) words a b m H are sound of at disk door good = rounds_done _ service.close disk door
+  complete_once tells told (unopened why) words a b m H are sound of at disk door good =
+      inr (inl (sound_unopened why m H a b sound at disk))
+  complete_once tells told (opened start (serving service)) words a b m H are sound of at disk door good =
+      rounds_done _ service.close disk door
       (λ n is. good n told is)
   complete_once tells told (opened start (onboarding o)) words a b m H are sound of at disk door good = let it =
       of_command Once words (opened start (onboarding o)) are of in never_served _ it.0 Once Onboard it.1 it.2 (λ wrong. cc)

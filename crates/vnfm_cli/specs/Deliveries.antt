@@ -27,7 +27,8 @@ pub record Sending : Type 0 where
 abbrev pub sent_behind : ℕ → List Event → List Dispatch → List Sending → List Sending
 sent_behind now H [] earlier = earlier
 sent_behind now H (p ∷ before) earlier =
-    record { beginning = H; history = once_all_dispatched now H before; dispatch = p } ∷ sent_behind now H before earlier
+    record { beginning = H; history = once_all_dispatched now H before; dispatch = p }
+    ∷ sent_behind now H before earlier
 
 -- and in front of them the one that was made, but not recorded
 abbrev pub sent_last : ℕ → List Event → List Dispatch → RoundEnd → List Sending → List Sending

@@ -2,7 +2,8 @@
 ghost use Rattle.lcm_mouth.specs.World as session;
 ghost use Rattle.vnfm_cli.specs.Headline.{SoundJobsMakeSoundPairs};
 ghost use Rattle.vnfm_cli.specs.Laws.{AnswersAreWhole, DiskFaultsAreTold, DoorFaultsAreCounted, InitMakes, InitsGoOn};
-ghost use Rattle.vnfm_cli.specs.Laws.{LivesGoOn, MadeJournalsBeginSoundly, DeliveriesGoInOrder, NoticesTellOfWhatStands};
+ghost use Rattle.vnfm_cli.specs.Laws.{LivesGoOn, MadeJournalsBeginSoundly, DeliveriesGoInOrder};
+ghost use Rattle.vnfm_cli.specs.Laws.{NoticesTellOfWhatStands};
 ghost use Rattle.vnfm_cli.specs.Laws.{OneLineIsPut};
 ghost use Rattle.vnfm_commands.specs.Outside.{telling};
 
@@ -29,9 +30,9 @@ pub fn door_faults_are_counted<S: Site, D: Door, O: Orchestrator, C: Courier, K:
     ensures { DoorFaultsAreCounted (telling S.tells D.tells O.tells C.tells K.tells) }
 {}
 
-/// Over all rounds of a run the courier is called for the dispatches of its rounds, one behind the other, and for nothing
-/// else; and the notices of each subscription are posted in their order: each post is of the first that waits, which was
-/// neither taken nor refused five times, and before which none is that wasn't.
+/// Over all rounds of a run the courier is called for the dispatches of its rounds, one behind the other, and for
+/// nothing else; and the notices of each subscription are posted in their order: each post is of the first that waits,
+/// which was neither taken nor refused five times, and before which none is that wasn't.
 ///
 /// Source: SOL 003 5.4.20 (Notification endpoint).
 pub fn deliveries_go_in_order<S: Site, D: Door, O: Orchestrator, C: Courier, K: Clock>()

@@ -85,9 +85,9 @@ pub record TurnDoes (t : Tells) (m : ℕ) (H : List Event) (turn : Turning) (end
   pub each : IsFor (active H) turn.acts end
 
 -- What the deliveries of a round do that ended so, over history H and at the moment of its turn: one post is made for
--- each live subscription for which a notice waits there, in the order of their numbers, each over the history that those
--- before it left, or up to one that ends in a fault (SOL 003 5.4.20). Nobody but the courier is asked, and running jobs
--- may have ended by themselves.
+-- each live subscription for which a notice waits there, in the order of their numbers, each over the history that
+-- those before it left, or up to one that ends in a fault (SOL 003 5.4.20). Nobody but the courier is asked, and
+-- running jobs may have ended by themselves.
 pub record PostingDoes (t : Tells) (m : ℕ) (H : List Event) (turn : Turning) (ps : List Dispatch)
     (end : RoundEnd) (a b : Beside) : Type 0 where
   pub mouth : b.mouth ≡ a.mouth

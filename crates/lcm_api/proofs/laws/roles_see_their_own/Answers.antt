@@ -45,7 +45,8 @@ same_list m H K role r same =
     text_told m H role
     ∙ (ap (λ (xs : List Subscription). compact_text (array (items_of (reverse (map (made_value m) xs))))) same
     ∙ sym (text_told m K role)) in
-    ap (λ (text : List ℕ). if asks_filter r.target then refused 400 (codes "filter is not served") r.last else told (shown text r.last)) text
+    ap (λ (body : List ℕ). if asks_filter r.target then refused 400 (codes "filter is not served") r.last
+    else told (shown body r.last)) text
 
 show_tells : (m : ℕ) (last : Bool) (found : Option Subscription) → OnlyTells (show_subscribed m last found)
 show_tells m last None = tt

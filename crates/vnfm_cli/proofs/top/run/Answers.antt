@@ -76,7 +76,8 @@ returns-clause-promises g c =
           let P : ℕ → Type 0 = λ status. MayEndWith command status in
           subst P (sym (put_told _ _ _ is (λ lost. sink (lost_line _ _ _ c.finish.ensures.counts lost))))
           (complete_ending c.files_are_one_thing.ensures.unmade c.files_are_one_thing.ensures.foreign c.files_are_one_thing.ensures.headed
-          c.a_legal_history_has_no_bad_record.ensures _ tells command runs.0 c.args.words.now a b are start runs.1.words_are (does.site tells)
+          c.a_legal_history_has_no_bad_record.ensures _ tells command runs.0 c.args.words.now a b are start runs.1.words_are
+          (does.site tells)
           (λ fault. disk (one_fault _ _ (c.obey-ending.ensures.disk.rose (runs.2 ∙ fault))))
           (λ fault. door (door_cause command c.args.words.now _ _ _ are failing fault)) good);
     }
