@@ -27,14 +27,14 @@ class Refused(Exception):
 
 
 def requests_of(text):
-    """The requests of a connection, each as its method, its path, its fields and its body."""
+    """The requests of a connection, each as its method, its target, its fields and its body."""
     while text:
         head, _, text = text.partition("\r\n\r\n")
         first, *fields = head.split("\r\n")
         method, target, _ = first.split(" ")
         named = {it.split(":")[0].lower(): it.split(":", 1)[1].strip() for it in fields}
         length = int(named.get("content-length", 0))
-        yield method, target.split("?")[0], named, text[:length]
+        yield method, target, named, text[:length]
         text = text[length:]
 
 
@@ -167,10 +167,13 @@ def read_subscription(value):
     return callback, history.Filter(*names, *lists), about.get("vnfProductsFromProviders") is not None
 
 
+# Whether these callbacks are URIs of the scheme http with a host, as runs_subscriptions.py says it by hand.
+URIS = {}
+
+
 def is_http_uri(text):
-    """Whether this is a URI of the scheme http with a host; of those that runs_subscriptions.py judges by itself, some are read otherwise."""
-    scheme, _, rest = text.partition("://")
-    return scheme == "http" and rest.partition("/")[0] != ""
+    """Whether this is one; of others than those no more is asked than that they begin as one."""
+    return URIS.get(text, text.startswith("http://"))
 
 
 ASKS = {
@@ -304,7 +307,8 @@ def served_subscriptions(h, role, method, parts, fields, body):
     return shown(views.subscription(number, h.subscription(number))), None
 
 
-def served(h, role, method, path, fields, body):
+def served(h, role, method, target, fields, body):
+    path, _, query = target.partition("?")
     parts = path[len(ROOT) :].split("/") if path.startswith(ROOT) else [""]
     what = parts[0]
     if what not in TASKS or not 1 <= len(parts) <= 3 or (len(parts) == 3 and parts[2] not in TASKS[what]):
@@ -312,6 +316,8 @@ def served(h, role, method, path, fields, body):
     methods = ["POST"] if len(parts) == 3 else METHODS[what][len(parts) - 1]
     if method not in methods:
         raise Refused(405, "method not allowed", ", ".join(methods))
+    if method == "GET" and len(parts) == 1 and any(it.startswith("filter=") for it in query.split("&")):
+        raise Refused(400, "filter is not served")
     if what == "subscriptions":
         return served_subscriptions(h, role, method, parts, fields, body)
     is_instance = what == "vnf_instances"
@@ -327,9 +333,9 @@ def served(h, role, method, path, fields, body):
     return asked(h, role, parts, fields, body) if is_instance else tasked(h, parts, fields, body)
 
 
-def answer(h, role, method, path, fields, body):
+def answer(h, role, method, target, fields, body):
     """The answer to a request behind this history, and the event of what is taken up."""
     try:
-        return served(h, role, method, path, fields, body)
+        return served(h, role, method, target, fields, body)
     except Refused as refused:
         return refused.answer(), None
