@@ -16,7 +16,7 @@ from working import CREATED, DONE, ONBOARDED, WAYS, Courier, DiskFailed, Grants,
 
 PLAYED = (
     *["runs_forward", "runs_rollbacks", "runs_cancels", "runs_stops", "runs_windows", "runs_asks", "runs_scaling", "runs_healing", "runs_powers"],
-    *["runs_terminations", "runs_troubles", "runs_lives", "runs_subscriptions", "runs_notices", "runs_deliveries"],
+    *["runs_terminations", "runs_troubles", "runs_lives", "runs_subscriptions", "runs_deliveries"],
 )
 # What lcm_cases has of its short lives (src/lives.rt): rounds of each, how many there are at most, and where each is stopped.
 SHORT_LIFE, LIVES = 7, 60
@@ -382,9 +382,8 @@ class Stage:
                 raise Differs("%s, %s: %s" % (where, act[0], fault)) from None
 
     def lives(self, first, choice, text):
-        end = next(state for state, name in run_texts.MOVED.items() if name == text)
         for life in range(LIVES):
-            if self.site.records[-1] == ("moved", 1, views.STATES.index(end)):
+            if in_file(self.site.records[-1:]) == self.text(text):
                 return
             self.granting = Grants()
             self.command(SHORT_LIFE, self.granting)

@@ -14,7 +14,7 @@ SUBSCRIPTION = SUBSCRIPTIONS + "/00000007-766d-8003-8000-%012x"
 CALLBACK = "http://127.0.0.1:9900/n"
 ORCHESTRATOR, ELEMENT = range(2)
 ROLES = "orchestrator", "em"
-OCCURRED, CREATION, DELETION = NOTICES = (
+OCCURRED, WAS_CREATED, WAS_DELETED = NOTICES = (
     *["VnfLcmOperationOccurrenceNotification", "VnfIdentifierCreationNotification", "VnfIdentifierDeletionNotification"],
 )
 TYPES = (
@@ -289,7 +289,7 @@ NO_LISTS = '7 true {} "x" 1.5'.split(" ")
 for of, spell, lists in (
     ("the filter", with_filter, ("notificationTypes", "operationTypes", "operationStates")), ("its instances", with_about, ABOUT),
 ):
-    words = dict(notificationTypes=CREATION, operationTypes="SCALE", operationStates="COMPLETED")
+    words = dict(notificationTypes=WAS_CREATED, operationTypes="SCALE", operationStates="COMPLETED")
     wrong_words = ['""', '"completed"', '"VnfIdentifierCreation"', '"Scale"', '"COMPLETED "', '"STARTED"', '"CHANGE_VNFPKG"', '["SCALE"]', "null", "7", "{}"]
     wrong_names = ['"%s"' % TOO_LONG, '"a\\u0001"', '"a\\n"', '["x"]', "null", "7", "true", "{}"]
     run(
@@ -381,7 +381,7 @@ JOINED = [
     dict(vnfdIds=["vnfd-1"], vnfInstanceIds=[I1], vnfInstanceNames=["edge-1"]), dict(vnfInstanceIds=[I1], operationStates=["COMPLETED"]),
     dict(notificationTypes=[OCCURRED], operationTypes=["HEAL", "CHANGE_FLAVOUR"], operationStates=["COMPLETED", "FAILED_TEMP"]),
     dict(
-        vnfdIds=["vnfd-1"], vnfInstanceIds=[I1], vnfInstanceNames=["edge-1"], notificationTypes=[OCCURRED, DELETION], operationTypes=["MODIFY_INFO"],
+        vnfdIds=["vnfd-1"], vnfInstanceIds=[I1], vnfInstanceNames=["edge-1"], notificationTypes=[OCCURRED, WAS_DELETED], operationTypes=["MODIFY_INFO"],
         operationStates=["ROLLED_BACK"],
     ),
     dict(vnfdIds=[], vnfInstanceNames=["edge-1"]), dict(notificationTypes=[], operationTypes=["SCALE"], operationStates=[]),
@@ -391,7 +391,7 @@ NOTHING_ASKED = [
     {}, dict(vnfdIds=[]), dict(operationStates=[]), dict(vnfdIds=[], vnfInstanceIds=[], vnfInstanceNames=[], notificationTypes=[], operationTypes=[], operationStates=[]),
 ]
 FULL = [
-    *[{title: ["%s-%d" % (title, it) for it in range(64)]} for title in ABOUT], dict(notificationTypes=[CREATION] * 64), dict(operationTypes=["SCALE"] * 64),
+    *[{title: ["%s-%d" % (title, it) for it in range(64)]} for title in ABOUT], dict(notificationTypes=[WAS_CREATED] * 64), dict(operationTypes=["SCALE"] * 64),
     dict(operationStates=["COMPLETED"] * 63 + ["FAILED"]),
 ]
 for title, filters in ("each list alone", SINGLE), ("several lists", JOINED), ("lists without a value", NOTHING_ASKED), ("64 values", FULL):
