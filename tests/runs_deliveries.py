@@ -28,10 +28,6 @@ def quiet(count, *receipts):
     return [["receipts", *receipts], in_rounds(count), ["status", 0], ["printed", "done after %d rounds\n" % count]]
 
 
-def ends_with(*events):
-    return ["file end", [*map(record_of, events), "\0"]]
-
-
 # ---- What a post is answered
 
 ONE = [working.ONBOARDED, subscribed(1), instance(1), instance(2)]
@@ -101,7 +97,7 @@ run(
 )
 run(
     "a subscription that is ended in the connection of a round is told of nothing in that round",
-    *[ONE_WAITS, *comes_from(ELEMENT, of_subscription(1, "DELETE"), subscribing("http://h/2")), ["answered", [GONE, made_answer(2, "http://h/2")]]],
+    *[ONE_WAITS, *comes_from(ELEMENT, of_subscription(1, "DELETE"), subscribing("http://h/2")), ["answered", joined([GONE, made_answer(2, "http://h/2")])]],
     *[["posted", ""], *comes_from(ORCHESTRATOR, request("POST", INSTANCES, '{"vnfdId":"vnfd-1"}')), ["status", 0]],
     *[["posted", post_of(2, 7, WAS_CREATED, instance=3, callback="http://h/2")], file_of(*ONE, unsubscribed(1), subscribed(2, callback="http://h/2"), (
         "created", 3, "vnfd-1", None, None

@@ -96,6 +96,11 @@ def listed(*views_):
     return [showing_front(sum(map(len, texts)) + len(texts) + 1), "[", *parts, "]"]
 
 
+def joined(texts):
+    """These texts, some of which are in parts, in one list."""
+    return [part for it in texts for part in (it if isinstance(it, list) else [it])]
+
+
 def comes_from(role, *texts):
     """A command for a connection of this role with these requests."""
     return [["door", list(texts)], go("once", "--journal", "j", "--role", ROLES[role])]
@@ -103,7 +108,7 @@ def comes_from(role, *texts):
 
 def told_to(role, *pairs):
     """A connection of this role with these requests is told these answers."""
-    return [*comes_from(role, *[it[0] for it in pairs]), ["answered", [it[1] for it in pairs]]]
+    return [*comes_from(role, *[it[0] for it in pairs]), ["answered", joined(it[1] for it in pairs)]]
 
 
 def site_of(title, *events):
