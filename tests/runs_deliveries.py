@@ -186,6 +186,14 @@ run(
     *[THREE_WAIT, *quiet(4), LIFE],
     ["each fault", THREE_WAIT, in_rounds(4), ["fallen"], ["kept"], ["posted so far"], *AGAIN, ["faults", 1, 0, 0, 0]],
 )
+# A record is a write, a sync, its gate and a sync; the post goes before the first of them.
+for calls in range(1, 5):
+    again = [] if calls == 4 else [first()]
+    run(
+        "a notice that was posted before a stop is posted again, by the same bytes, unless that is recorded: behind %d calls" % calls,
+        *[ONE_WAITS, *quiet(1), ["posted", first()], file_of(*ONE, posted(1, 3)), ["stop behind", calls], ["waits", 1, 3 if again else 4]],
+        *[*quiet(2), ["posted", [*again, second()]], ["waits", 1, 0], file_of(*ONE, posted(1, 3), posted(1, 4))],
+    )
 # The receiver refuses the first notice twice: what the next life posts is answered as the whole one was.
 UNEVEN = [posted(1, 3, NOT_TAKEN), posted(1, 3, NOT_TAKEN), posted(1, 3), posted(1, 4, NOT_TAKEN), posted(1, 4)]
 RECEIPTS = [500, "fail", 204, 404]

@@ -65,10 +65,12 @@ fn end_of_round(alloc: Global, site: &mut MemSite, courier: &mut MemCourier) -> 
     };
     let now = Moment::of(1_700_000_000_000);
     match deliver_all(alloc, &mut manager, site, courier, now) {
-        Ok(Deliveries {
-            delivered,
-            not_taken: 0,
-        }) => Ended::Through(delivered),
+        Ok(
+            Deliveries {
+                delivered,
+                not_taken: 0,
+            },
+        ) => Ended::Through(delivered),
         Err(DeliveryFault::Memory) => Ended::Starved,
         _ => Ended::Otherwise,
     }

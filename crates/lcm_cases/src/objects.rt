@@ -4,8 +4,7 @@ use crate::recorder::PostRecorder;
 use lcm_events::Role;
 use lcm_mouth::Mouth;
 use site_traits::{
-    DoorPlan, MemConn, MemDoor, MemOrchestrator, MemSink, MemSite, Orchestrator, PostPlan,
-    SetClock,
+    DoorPlan, MemConn, MemDoor, MemOrchestrator, MemSink, MemSite, Orchestrator, PostPlan, SetClock,
 };
 use std::alloc::{AllocError, Global};
 use vnfm_base::{Bytes, Text};

@@ -1,7 +1,8 @@
 //! An orchestrator that keeps what it was asked with and polled at, and a courier that keeps what it posted.
 
 use site_traits::{
-    Call, Courier, GrantPlan, Heard, MemCourier, MemOrchestrator, Orchestrator, PostAnswer, PostPlan,
+    Call, Courier, GrantPlan, Heard, MemCourier, MemOrchestrator, Orchestrator, PostAnswer,
+    PostPlan,
 };
 use std::alloc::{AllocError, Global};
 use vnfm_base::Line;
