@@ -45,6 +45,20 @@ fn first_notice(alloc: Global, site: &mut MemSite, subscription: u64) -> Option<
     Some(manager.first_notice(subscription).unwrap_or(0))
 }
 
+/// Puts the first so many of these lines, but those that are there.
+fn keep_lines(into: &mut Vec<u8>, lines: &[u8], count: usize) -> Result<(), AllocError> {
+    let mut from = 0;
+    for number in 0..count {
+        let to = behind_lines(lines, number.saturating_add(1));
+        let line = lines.get(from..to).unwrap_or(&[]);
+        if !has_line(into, line) {
+            into.extend_from_slice(line)?;
+        }
+        from = to;
+    }
+    Ok(())
+}
+
 /// How the deliveries of a round ended in which any allocation may fail.
 #[derive(Clone, Copy, PartialEq)]
 enum Ended {
@@ -207,16 +221,7 @@ impl Stage {
     /// Keeps what the last command posted up to this call on the site's record, but what lives before posted too.
     pub fn keep_posts(&mut self, alloc: Global, call: usize) -> Result<(), AllocError> {
         let posts = posts_of(alloc, &self.site)?;
-        let lines = self.ran.posts.as_slice();
-        let mut from = 0;
-        for count in 0..made_until(&posts, call) {
-            let to = behind_lines(lines, count.saturating_add(1));
-            let line = lines.get(from..to).unwrap_or(&[]);
-            if !has_line(&self.posted, line) {
-                self.posted.extend_from_slice(line)?;
-            }
-            from = to;
-        }
-        Ok(())
+        let count = made_until(&posts, call);
+        keep_lines(&mut self.posted, &self.ran.posts, count)
     }
 }
