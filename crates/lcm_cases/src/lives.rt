@@ -111,9 +111,10 @@ impl Stage {
         self.granting = GrantAll::new(alloc)?;
         self.quiet_rounds(alloc, SHORT_LIFE)?;
         let last = opening(&self.site).saturating_add(length_of(life));
-        let last = last.min(self.site.moment());
         self.keep_posts(alloc, last.saturating_sub(1))?;
-        self.site = self.site.stopped(alloc, last, choice)?;
+        self.site = self
+            .site
+            .stopped(alloc, last.min(self.site.moment()), choice)?;
         self.keeps_records(alloc)
     }
 
