@@ -106,7 +106,7 @@ run(
 run(
     "what a connection does is told of in its own round, one notice of it",
     *[EMPTY, *told_to(ELEMENT, (subscribing(), made_answer(1)))],
-    *[["door", [CREATE_TEXT] * 3], in_rounds(4), ["status", 0], ["posted", [post_of(1, 3, WAS_CREATED), post_of(1, 4, WAS_CREATED, instance=2), post_of(1, 5, WAS_CREATED, instance=3)]]],
+    *[["door", [CREATE_TEXT] * 3], in_rounds(4), ["status", 0], ["posted", [post_of(1, it + 2, WAS_CREATED, instance=it) for it in (1, 2, 3)]]],
     file_of(working.ONBOARDED, subscribed(1), *[instance(it) for it in (1, 2, 3)], *[posted(1, it) for it in (3, 4, 5)]),
     *[*comes_from(ORCHESTRATOR, request("DELETE", INSTANCE % 2)), ["answered", GONE], ["posted", post_of(1, 9, WAS_DELETED, instance=2)]],
 )

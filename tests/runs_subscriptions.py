@@ -183,7 +183,10 @@ FORMS = (
 run(
     "what is no subscription's identifier names none",
     WITH_BOTH,
-    *[act for path, method in itertools.product(FORMS, ("GET", "DELETE")) for act in (*comes_from(ELEMENT, request(method, path)), ["only answered", NO_SUBSCRIPTION])],
+    *[
+        act for path, method in itertools.product(FORMS, ("GET", "DELETE"))
+        for act in (*comes_from(ELEMENT, request(method, path)), ["only answered", NO_SUBSCRIPTION])
+    ],
 )
 run(
     "a subscription is numbered behind those that are no more",
@@ -290,9 +293,10 @@ refused_bodies(
     # (of a member that stands twice the last counts)
     *[(members(URI, ("callbackUri", "7")), "bad callbackUri"), (members(("filter", "7"), ("callbackUri", "7")), "bad callbackUri")],
 )
+LISTS = "notificationTypes", "operationTypes", "operationStates"
 NO_LISTS = '7 true {} "x" 1.5'.split(" ")
 for of, spell, lists in (
-    ("the filter", with_filter, ("notificationTypes", "operationTypes", "operationStates")), ("its instances", with_about, ABOUT),
+    ("the filter", with_filter, LISTS), ("its instances", with_about, ABOUT),
 ):
     words = dict(notificationTypes=WAS_CREATED, operationTypes="SCALE", operationStates="COMPLETED")
     wrong_words = ['""', '"completed"', '"VnfIdentifierCreation"', '"Scale"', '"COMPLETED "', '"STARTED"', '"CHANGE_VNFPKG"', '["SCALE"]', "null", "7", "{}"]
@@ -315,15 +319,15 @@ refused_bodies(
     *[(members(URI, ("filter", it)), "bad filter") for it in FORMS_OF_NO_OBJECT],
     *[(with_filter(("vnfInstanceSubscriptionFilter", it)), "bad vnfInstanceSubscriptionFilter") for it in FORMS_OF_NO_OBJECT],
     # (in the order of the members, wherever they stand)
-    (with_filter(*[(it, "7") for it in ("operationStates", "operationTypes", "notificationTypes", "vnfInstanceSubscriptionFilter")]), "bad vnfInstanceSubscriptionFilter"),
+    (with_filter(*[(it, "7") for it in (*reversed(LISTS), "vnfInstanceSubscriptionFilter")]), "bad vnfInstanceSubscriptionFilter"),
     (
-        with_filter(*[(it, "7") for it in ("operationStates", "operationTypes", "notificationTypes")], ("vnfInstanceSubscriptionFilter", members(("vnfdIds", "7")))),
+        with_filter(*[(it, "7") for it in reversed(LISTS)], ("vnfInstanceSubscriptionFilter", members(("vnfdIds", "7")))),
         "bad vnfdIds",
     ),
     *[(with_about(*[(it, "7") for it in reversed(ABOUT[first:])]), "bad " + ABOUT[first]) for first in range(3)],
     *[
         (with_filter(*[(it, "7") for it in reversed(lists)]), "bad " + lists[0])
-        for lists in (("notificationTypes", "operationTypes", "operationStates"), ("operationTypes", "operationStates"))
+        for lists in (LISTS, LISTS[1:])
     ],
     (members(("filter", members(("operationStates", "7")))), "missing callbackUri"),
     (members(("callbackUri", '"https://h/"'), ("filter", members(("operationStates", "7")))), "bad operationStates"),
@@ -350,15 +354,15 @@ run(
 
 # What the URL Standard reads as a URL of the scheme http with a host, and what it doesn't.
 HTTP_URIS = (
-    "http://h/", "http://h", "HTTP://h/", "hTTp://H/", "http://h:80/", "http://h:0/", "http://h:65535/", "http://h:/", "http://127.0.0.1:9900/n", "http://[::1]/",
-    "http://[::1]:9900/n", "http://u:p@h/", "http://u@h/", "http://h?x", "http://h#y", "http://h/a?b=c&d=e#f", "http://h/%zz", "http://a.b.example./",
-    "http://256/", "http://0x7f.1/", "http:h", "http:/h", "http:///x", "http:\\\\h\\x", " http://h/ ", "http://h/a b", "http://1.2.3/", "http://a_b/",
+    "http://h/", "http://h", "HTTP://h/", "hTTp://H/", "http://h:80/", "http://h:0/", "http://h:65535/", "http://h:/", "http://127.0.0.1:9900/n",
+    "http://[::1]/", "http://[::1]:9900/n", "http://u:p@h/", "http://u@h/", "http://h?x", "http://h#y", "http://h/a?b=c&d=e#f", "http://h/%zz",
+    "http://a.b.example./", "http://256/", "http://0x7f.1/", "http:h", "http:/h", "http:///x", "http:\\\\h\\x", " http://h/ ", "http://h/a b", "http://1.2.3/", "http://a_b/",
 )
 NO_HTTP_URIS = (
     "https://h/", "ftp://h/", "ws://h/", "file:///h", "file://h/x", "mailto:a@h", "data:,x", "urn:x:y", "javascript:http://h/", "xhttp://h/", "http+x://h/", "",
-    " ", "h", "h/", "//h/", "/h", "http", "http//h/", "://h/", ":", "http:", "http:/", "http://", "http:///", "http://?x", "http://#x", "http://:80/", "http://@/",
-    "http://u:p@/", "http://h:65536/", "http://h:x/", "http://h:-1/", "http://h h/", "http://[::1/", "http://[::g]/", "http://[1]/", "http://1.2.3.256/",
-    "http://1.2.3.4.5/", "http://a^b/", "http://a<b/", "http://a|b/", "http://%00/", "http://a%2fb/", "?", "#",
+    " ", "h", "h/", "//h/", "/h", "http", "http//h/", "://h/", ":", "http:", "http:/", "http://", "http:///", "http://?x", "http://#x",
+    "http://:80/", "http://@/", "http://u:p@/", "http://h:65536/", "http://h:x/", "http://h:-1/", "http://h h/", "http://[::1/",
+    "http://[::g]/", "http://[1]/", "http://1.2.3.256/", "http://1.2.3.4.5/", "http://a^b/", "http://a<b/", "http://a|b/", "http://%00/", "http://a%2fb/", "?", "#",
 )
 answering.URIS.update({**dict.fromkeys(HTTP_URIS, True), **dict.fromkeys(NO_HTTP_URIS, False)})
 run(
@@ -393,7 +397,7 @@ JOINED = [
     dict(vnfdIds=[], vnfInstanceIds=[], vnfInstanceNames=[], operationStates=["FAILED"]), dict(vnfdIds=["vnfd-1"], operationStates=[]),
 ]
 NOTHING_ASKED = [
-    {}, dict(vnfdIds=[]), dict(operationStates=[]), dict(vnfdIds=[], vnfInstanceIds=[], vnfInstanceNames=[], notificationTypes=[], operationTypes=[], operationStates=[]),
+    {}, dict(vnfdIds=[]), dict(operationStates=[]), {title: [] for title in (*ABOUT, *LISTS)},
 ]
 FULL = [
     *[{title: ["%s-%d" % (title, it) for it in range(64)]} for title in ABOUT], dict(notificationTypes=[WAS_CREATED] * 64), dict(operationTypes=["SCALE"] * 64),
@@ -411,7 +415,8 @@ EMPTY_FILTERS = ["{}", "null", members(("x", "7")), members(("vnfInstanceSubscri
 EMPTY_FILTERS += [members(("operationStates", "null")), members(("vnfInstanceSubscriptionFilter", members(("vnfdIds", "null"))))]
 run(
     "a filter that asks nothing is as if there were none",
-    *[EMPTY, *told_to(ELEMENT, *[(subscribing_by(members(URI, ("filter", it))), made_answer(number, "http://h/")) for number, it in enumerate(EMPTY_FILTERS, 1)])],
+    EMPTY,
+    *told_to(ELEMENT, *[(subscribing_by(members(URI, ("filter", it))), made_answer(number, "http://h/")) for number, it in enumerate(EMPTY_FILTERS, 1)]),
     file_of(working.ONBOARDED, *[subscribed(number, callback="http://h/") for number, _ in enumerate(EMPTY_FILTERS, 1)]),
 )
 TWICE = members(
@@ -443,7 +448,8 @@ run(
 )
 run(
     "the hundredth subscription of a role is taken",
-    *[site_of("NINETY_NINE", working.ONBOARDED, *HUNDRED[:99]), *told_to(ELEMENT, (subscribing("http://h/"), made_answer(100, "http://h/")), (subscribing(), TOO_MANY))],
+    site_of("NINETY_NINE", working.ONBOARDED, *HUNDRED[:99]),
+    *told_to(ELEMENT, (subscribing("http://h/"), made_answer(100, "http://h/")), (subscribing(), TOO_MANY)),
     file_of(working.ONBOARDED, *HUNDRED),
 )
 
