@@ -356,13 +356,15 @@ run(
 HTTP_URIS = (
     "http://h/", "http://h", "HTTP://h/", "hTTp://H/", "http://h:80/", "http://h:0/", "http://h:65535/", "http://h:/", "http://127.0.0.1:9900/n",
     "http://[::1]/", "http://[::1]:9900/n", "http://u:p@h/", "http://u@h/", "http://h?x", "http://h#y", "http://h/a?b=c&d=e#f", "http://h/%zz",
-    "http://a.b.example./", "http://256/", "http://0x7f.1/", "http:h", "http:/h", "http:///x", "http:\\\\h\\x", " http://h/ ", "http://h/a b", "http://1.2.3/", "http://a_b/",
+    "http://a.b.example./", "http://256/", "http://0x7f.1/", "http:h", "http:/h", "http:///x", "http:\\\\h\\x", " http://h/ ", "http://h/a b",
+    "http://1.2.3/", "http://a_b/",
 )
 NO_HTTP_URIS = (
-    "https://h/", "ftp://h/", "ws://h/", "file:///h", "file://h/x", "mailto:a@h", "data:,x", "urn:x:y", "javascript:http://h/", "xhttp://h/", "http+x://h/", "",
-    " ", "h", "h/", "//h/", "/h", "http", "http//h/", "://h/", ":", "http:", "http:/", "http://", "http:///", "http://?x", "http://#x",
-    "http://:80/", "http://@/", "http://u:p@/", "http://h:65536/", "http://h:x/", "http://h:-1/", "http://h h/", "http://[::1/",
-    "http://[::g]/", "http://[1]/", "http://1.2.3.256/", "http://1.2.3.4.5/", "http://a^b/", "http://a<b/", "http://a|b/", "http://%00/", "http://a%2fb/", "?", "#",
+    "https://h/", "ftp://h/", "ws://h/", "file:///h", "file://h/x", "mailto:a@h", "data:,x", "urn:x:y", "javascript:http://h/", "xhttp://h/",
+    "http+x://h/", "", " ", "h", "h/", "//h/", "/h", "http", "http//h/", "://h/", ":", "http:", "http:/", "http://", "http:///", "http://?x",
+    "http://#x", "http://:80/", "http://@/", "http://u:p@/", "http://h:65536/", "http://h:x/", "http://h:-1/", "http://h h/", "http://[::1/",
+    "http://[::g]/", "http://[1]/", "http://1.2.3.256/", "http://1.2.3.4.5/", "http://a^b/", "http://a<b/", "http://a|b/", "http://%00/",
+    "http://a%2fb/", "?", "#",
 )
 answering.URIS.update({**dict.fromkeys(HTTP_URIS, True), **dict.fromkeys(NO_HTTP_URIS, False)})
 run(
