@@ -10,6 +10,7 @@ from run_parts import refusal, showing
 ROOT = "/vnflcm/v1/"
 REASONS = {
     400: "Bad Request", 404: "Not Found", 405: "Method Not Allowed", 409: "Conflict", 415: "Unsupported Media Type", 422: "Unprocessable Content",
+    507: "Insufficient Storage",
 }
 GREATEST = 4_294_967_295
 MOST_MACHINES = 512
@@ -26,14 +27,14 @@ class Refused(Exception):
 
 
 def requests_of(text):
-    """The requests of a connection, each as its method, its path, its fields and its body."""
+    """The requests of a connection, each as its method, its target, its fields and its body."""
     while text:
         head, _, text = text.partition("\r\n\r\n")
         first, *fields = head.split("\r\n")
         method, target, _ = first.split(" ")
         named = {it.split(":")[0].lower(): it.split(":", 1)[1].strip() for it in fields}
         length = int(named.get("content-length", 0))
-        yield method, target.split("?")[0], named, text[:length]
+        yield method, target, named, text[:length]
         text = text[length:]
 
 
@@ -144,6 +145,37 @@ def read_terminate(value):
     return "terminate", views.MODES.index(mode), optional(value, "gracefulTerminationTimeout", is_whole)
 
 
+def are_values(has_form):
+    """The form of a list of a filter."""
+    return lambda value: isinstance(value, list) and len(value) <= history.VALUES and all(map(has_form, value))
+
+
+def is_object(value):
+    return isinstance(value, dict)
+
+
+def read_subscription(value):
+    """Where notices go, which these are, and whether products are asked for."""
+    callback = needed(value, "callbackUri", is_line)
+    asked = optional(value, "filter", is_object, {})
+    about = optional(asked, "vnfInstanceSubscriptionFilter", is_object, {})
+    names = [optional(about, title, are_values(is_name), []) for title in ("vnfdIds", "vnfInstanceIds", "vnfInstanceNames")]
+    worded = [
+        ("notificationTypes", views.NOTICES, 0), ("operationTypes", views.TYPES_ASKED, 1), ("operationStates", views.STATES, 0),
+    ]
+    lists = [[words.index(it) + first for it in optional(asked, title, are_values(is_one_of(*words)), [])] for title, words, first in worded]
+    return callback, history.Filter(*names, *lists), about.get("vnfProductsFromProviders") is not None
+
+
+# Whether these callbacks are URIs of the scheme http with a host, as runs_subscriptions.py says it by hand.
+URIS = {}
+
+
+def is_http_uri(text):
+    """Whether this is one; of others than those no more is asked than that they begin as one."""
+    return URIS.get(text, text.startswith("http://"))
+
+
 ASKS = {
     "instantiate": read_instantiate, "scale": read_scale, "scale_to_level": read_scale_to_level, "heal": read_heal, "operate": read_operate,
     "terminate": read_terminate,
@@ -154,9 +186,9 @@ ASKS = {
 
 def numbered(parts, kind, live):
     """The number of what a path names, where that is live."""
-    number = next((it for it in range(1, 100) if history.identifier(it, kind) == parts[1]), None)
+    number = next((it for it in range(1, 300) if history.identifier(it, kind) == parts[1]), None)
     if number is None or not live(number):
-        raise Refused(404, "no such " + ("instance", "occurrence")[kind - 1])
+        raise Refused(404, "no such " + ("instance", "occurrence", "subscription")[kind - 1])
     return number
 
 
@@ -169,6 +201,12 @@ def shown(view):
     return showing(views.written(view))
 
 
+def made(path, view):
+    """The answer that something was made, which is found there and shown so."""
+    head = "HTTP/1.1 201 Created\r\nLocation: %s\r\nContent-Type: application/json\r\nContent-Length: %d\r\n\r\n"
+    return head % (path, len(view)) + view
+
+
 def created(h, fields, body):
     is_json(fields)
     value = object_in(body)
@@ -178,8 +216,7 @@ def created(h, fields, body):
         raise Refused(422, "vnfdId is not onboarded")
     number = len(h.instances) + 1
     view = views.written(views.instance(number, history.Instance(called, text)))
-    head = "HTTP/1.1 201 Created\r\nLocation: %s\r\nContent-Type: application/json\r\nContent-Length: %d\r\n\r\n"
-    return head % (views.path(number, 1), len(view)) + view, ("created", number, "vnfd-1", called, text)
+    return made(views.path(number, 1), view), ("created", number, "vnfd-1", called, text)
 
 
 def deleted(h, parts):
@@ -237,12 +274,41 @@ def tasked(h, parts, fields, body):
     return text, ("moved", number, FAILED)
 
 
+def subscribed(h, role, fields, body):
+    is_json(fields)
+    callback, asked, has_products = read_subscription(object_in(body))
+    refuse(422, None if is_http_uri(callback) else "callbackUri is not an http URI")
+    refuse(422, "vnfProductsFromProviders is not served" if has_products else None)
+    refuse(507, None if len(h.subscriptions_of(role)) < history.SUBSCRIPTIONS else "too many subscriptions")
+    number = len(h.subscriptions) + 1
+    view = views.written(views.subscription(number, history.Subscription(role, callback, asked, 0)))
+    return made(views.path(number, 3), view), ("subscribed", number, role, callback, asked)
+
+
+def subscription_named(h, role, parts):
+    """The number of the subscription of this role that a path names; that of another role is none."""
+    return numbered(parts, 3, lambda it: it in dict(h.subscriptions_of(role)))
+
+
 # The tasks that a path may end in, by the list that it begins with, and the methods of a list and of what is in it.
-TASKS = {"vnf_instances": [*ASKS, "change_flavour"], "vnf_lcm_op_occs": [*MOVES, "cancel"]}
-METHODS = {"vnf_instances": (["GET", "POST"], ["DELETE", "GET"]), "vnf_lcm_op_occs": (["GET"], ["GET"])}
+TASKS = {"vnf_instances": [*ASKS, "change_flavour"], "vnf_lcm_op_occs": [*MOVES, "cancel"], "subscriptions": []}
+METHODS = {
+    "vnf_instances": (["GET", "POST"], ["DELETE", "GET"]), "vnf_lcm_op_occs": (["GET"], ["GET"]), "subscriptions": (["GET", "POST"], ["DELETE", "GET"]),
+}
 
 
-def served(h, role, method, path, fields, body):
+def served_subscriptions(h, role, method, parts, fields, body):
+    """A request of subscriptions, or of one."""
+    if len(parts) == 1:
+        return subscribed(h, role, fields, body) if method == "POST" else (showing(views.subscriptions(h, role)), None)
+    number = subscription_named(h, role, parts)
+    if method == "DELETE":
+        return "HTTP/1.1 204 No Content\r\n\r\n", ("unsubscribed", number)
+    return shown(views.subscription(number, h.subscription(number))), None
+
+
+def served(h, role, method, target, fields, body):
+    path, _, query = target.partition("?")
     parts = path[len(ROOT) :].split("/") if path.startswith(ROOT) else [""]
     what = parts[0]
     if what not in TASKS or not 1 <= len(parts) <= 3 or (len(parts) == 3 and parts[2] not in TASKS[what]):
@@ -250,6 +316,10 @@ def served(h, role, method, path, fields, body):
     methods = ["POST"] if len(parts) == 3 else METHODS[what][len(parts) - 1]
     if method not in methods:
         raise Refused(405, "method not allowed", ", ".join(methods))
+    if method == "GET" and len(parts) == 1 and any(it.startswith("filter=") for it in query.split("&")):
+        raise Refused(400, "filter is not served")
+    if what == "subscriptions":
+        return served_subscriptions(h, role, method, parts, fields, body)
     is_instance = what == "vnf_instances"
     if len(parts) == 1:
         if method == "POST":
@@ -263,9 +333,9 @@ def served(h, role, method, path, fields, body):
     return asked(h, role, parts, fields, body) if is_instance else tasked(h, parts, fields, body)
 
 
-def answer(h, role, method, path, fields, body):
+def answer(h, role, method, target, fields, body):
     """The answer to a request behind this history, and the event of what is taken up."""
     try:
-        return served(h, role, method, path, fields, body)
+        return served(h, role, method, target, fields, body)
     except Refused as refused:
         return refused.answer(), None

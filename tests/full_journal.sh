@@ -1,6 +1,7 @@
 #!/bin/sh
 # A journal that is all but full: a turn records what fits to the last byte of the file, and ends with 9 at the first act that
-# doesn't; a request is told 507, and a descriptor ends with 9 too. Needs python3, and 300 MB in the folder of temporary files.
+# doesn't; a request is told 507, and a descriptor ends with 9 too. A notice that waits is posted where its record fits to the
+# last byte, and else nothing is posted. Needs python3, and 300 MB in the folder of temporary files.
 . "$(dirname "$0")/common.sh"
 
 limit=268435456
@@ -19,7 +20,7 @@ done
 cat >"$room/fill.py" <<'END_OF_FILL'
 import struct, sys
 
-journal, end = sys.argv[1], int(sys.argv[2])
+journal, end, first = sys.argv[1], int(sys.argv[2]), int(sys.argv[3])
 MOMENT = (1_700_000_000_000).to_bytes(8)
 LEAST, MOST = 55, 2_103
 
@@ -38,7 +39,7 @@ with open(journal, "r+b") as file:
     # The last two share what is left, so that neither is too small.
     last = MOST if rest >= LEAST else MOST - LEAST
     sizes = [MOST] * (count - 1) + [last, MOST + rest - last]
-    for number, size in enumerate(sizes, 3):
+    for number, size in enumerate(sizes, first):
         file.write(pair(number, size))
     assert file.tell() == end
     file.write(b"\0")
@@ -59,7 +60,7 @@ run() { # INPUT COMMAND [OPTION VALUE]
 sed 's/vnfd-1/vnfd-2/' "$here/examples/vnfd.json" >"$room/other.json"
 
 # A try has 18 bytes, and a record 6 more, its closed gate counted: the first of two fits, and nothing behind it.
-python3 "$room/fill.py" "$journal" "$((limit - 24))" || exit 1
+python3 "$room/fill.py" "$journal" "$((limit - 24))" 3 || exit 1
 expect "a turn of two acts" "$(run /dev/null once)" "status 9, journal full: $((limit - 1)) + 18 bytes, $limit bytes"
 expect "a turn behind it" "$(run /dev/null once)" "status 9, journal full: $((limit - 1)) + 18 bytes, $limit bytes"
 expect "a request, and a turn" "$(run "$request" once)" \
@@ -70,5 +71,58 @@ expect "a cancel, and a turn" "$(run "$here/examples/cancel.http" once)" \
 expect "a cancel, its detail" "$(tail -n 1 "$room/out")" '{"detail":"journal full","status":507}'
 expect "no round" "$(run /dev/null once --rounds 0)" "status 0, done after 0 rounds, $limit bytes"
 expect "a descriptor" "$(run "$room/other.json" onboard)" "status 9, journal full: $((limit - 1)) + 256 bytes, $limit bytes"
+
+# A receiver that takes each notice, of which the posts are counted.
+cat >"$room/receiver.py" <<'END_OF_RECEIVER'
+import http.server, os, sys
+
+class Receiver(http.server.BaseHTTPRequestHandler):
+    def do_POST(self):
+        self.rfile.read(int(self.headers["Content-Length"]))
+        with open(sys.argv[2], "a") as posts:
+            posts.write("%s\n" % self.path)
+        self.send_response_only(204)
+        self.end_headers()
+
+    def log_message(self, *_):
+        pass
+
+server = http.server.HTTPServer(("127.0.0.1", 0), Receiver)
+with open(sys.argv[1] + ".new", "w") as port:
+    port.write(str(server.server_port))
+os.rename(sys.argv[1] + ".new", sys.argv[1])
+server.serve_forever()
+END_OF_RECEIVER
+: >"$room/posts"
+python3 "$room/receiver.py" "$room/port" "$room/posts" &
+receiver=$!
+trap 'kill "$receiver"; rm -rf "$room"' EXIT
+until [ -e "$room/port" ]; do sleep 0.1; done
+
+# The notices of a subscription wait behind it: of instances that are created and deleted, up to a byte.
+body='{"callbackUri":"http://127.0.0.1:'$(cat "$room/port")'/n"}'
+printf 'POST /vnflcm/v1/subscriptions HTTP/1.1\r\nContent-Length: %s\r\n\r\n%s' "${#body}" "$body" >"$room/subscribe"
+posted() {
+    bytes_of "$room/posts"
+}
+waiting() { # END
+    cp "$start" "$journal"
+    "$here/vnfm" once --journal "$journal" <"$room/subscribe" >"$room/out" 2>/dev/null
+    expect "a subscription" "$(head -n 1 "$room/out" | tr -d '\r')" "HTTP/1.1 201 Created"
+    python3 "$room/fill.py" "$journal" "$1" 1 || exit 1
+}
+
+# That a notice was posted has 26 bytes, and a record 6 more, its closed gate counted.
+waiting "$((limit - 31))"
+expect "a notice without room" "$(run /dev/null once)" "status 9, journal full: $((limit - 31)) + 26 bytes, $((limit - 30)) bytes"
+expect "a notice without room, posts" "$(posted) bytes" "0 bytes"
+waiting "$((limit - 32))"
+expect "a notice with room to the last byte" "$(run /dev/null once)" "status 0, done after 1 rounds, $limit bytes"
+expect "a notice with room to the last byte, posts" "$(posted) bytes" "3 bytes"
+expect "the notice behind it" "$(run /dev/null once)" "status 9, journal full: $((limit - 1)) + 26 bytes, $limit bytes"
+expect "a subscription in a full journal" "$(run "$room/subscribe" once)" \
+    "status 9, HTTP/1.1 507 Insufficient Storage,journal full: $((limit - 1)) + 26 bytes, $limit bytes"
+expect "a subscription in a full journal, its detail" "$(tail -n 1 "$room/out")" '{"detail":"journal full","status":507}'
+expect "the notice behind it, posts" "$(posted) bytes" "3 bytes"
 
 exit "$differs"

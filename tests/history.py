@@ -39,6 +39,7 @@ OCCURRENCE, CREATION, DELETION = range(3)
 DELIVERED, NOT_TAKEN = range(2)
 MANAGER = 7
 VALUES = 64
+SUBSCRIPTIONS = 100
 POSTS = 5
 WINDOW = 4
 OPERATIONS = {"instantiate": 1, "scale": 2, "level": 3, "aspects": 3, "heal": 4, "operate": 5, "terminate": 6}
@@ -365,9 +366,12 @@ def is_let_through(f, notice):
 
 
 class Subscription:
-    """What is so of a subscription: the place of the event that made it, those of its notices, and how each was posted."""
+    """What is so of a subscription: whose it is, where its notices go and which these are, the place of the event that made it, those of its notices
+    behind that, in their order, and how each was posted."""
 
-    def __init__(self, asked, made):
+    def __init__(self, role, callback, asked, made):
+        self.role = role
+        self.callback = callback
         self.filter = asked
         self.made = made
         self.live = True
@@ -424,6 +428,10 @@ class History:
     def subscription(self, number):
         return self.subscriptions[number - 1] if 1 <= number <= len(self.subscriptions) and self.subscriptions[number - 1].live else None
 
+    def subscriptions_of(self, role):
+        """The live subscriptions of a role, each with its number."""
+        return [(n, s) for n, s in enumerate(self.subscriptions, 1) if s.live and s.role == role]
+
     def ongoing(self, number):
         return next((n for n, o in enumerate(self.occurrences, 1) if o.instance == number and not o.is_over()), None)
 
@@ -457,7 +465,9 @@ class History:
                 number == len(self.occurrences) + 1 and held is not None and refusal(held, self.is_busy(instance), ask) is None
                 and changes == plan(held, ask))
         if kind == "subscribed":
-            return fields[0] == len(self.subscriptions) + 1 and all(len(values) <= VALUES for values in fields[3])
+            return (
+                fields[0] == len(self.subscriptions) + 1 and len(self.subscriptions_of(fields[1])) < SUBSCRIPTIONS
+                and all(len(values) <= VALUES for values in fields[3]))
         if kind == "unsubscribed":
             return self.subscription(fields[0]) is not None
         if kind == "posted":
@@ -528,8 +538,12 @@ class History:
         assert self.is_allowed(kind, *fields), (kind, fields)
         self.put(1, kind, fields)
         self.seen.update({kind, self.feature(kind, *fields)})
-        self.events += 1
         self.follow(kind, *fields)
+
+    def follow(self, kind, *fields):
+        """This event stands behind the others."""
+        self.events += 1
+        self.change(kind, *fields)
         notice = self.notice(kind, *fields)
         if notice is not None:
             self.hear(notice)
@@ -542,7 +556,7 @@ class History:
                 subscription.notices.append(self.events)
             self.seen.update([("notice", notice.which, heard)])
 
-    def follow(self, kind, *fields):
+    def change(self, kind, *fields):
         if kind == "onboarded":
             self.onboarded = True
         elif kind == "created":
@@ -557,7 +571,7 @@ class History:
                 if change.vdu != NO_VDU:
                     held.top[change.vdu] = max(held.top[change.vdu], change.serial)
         elif kind == "subscribed":
-            self.subscriptions.append(Subscription(fields[3], self.events))
+            self.subscriptions.append(Subscription(*fields[1:], self.events))
         elif kind == "unsubscribed":
             self.subscription(fields[0]).live = False
         elif kind == "posted":

@@ -1,7 +1,7 @@
 #!/bin/sh
 # Each allocation of a run failing in turn: the run ends with 6 and `no memory`, or the request is told 503, in both of which
-# the journal is as it was, but for the acts of a turn before the one that found none; or whoever asked does without, and the
-# run ends as if nothing had failed. Needs a C compiler, for a library that stands between the program and the allocator;
+# the journal is as it was, but for the acts of a turn and the deliveries before the one that found none; or whoever asked does
+# without, and the run ends as if nothing had failed. Needs a C compiler, for a library that stands between the program and the allocator;
 # and rt, for a test.
 . "$(dirname "$0")/common.sh"
 
@@ -113,31 +113,44 @@ status 6, HTTP/1.1 202 Accepted,no memory, $((begun + 46)) bytes" "$room/asked" 
 once --rounds 3 </dev/null
 turn "a turn of a move and a try"
 
-# A turn of two grants, which the program doesn't reach yet: lcm_cases plays it over the objects in memory. Where an allocation of
-# what it reads or plays the run with fails, it says that there was no memory; else the run comes out as it is to. The
-# toolchain proves and builds it.
-turn="the acts before one that is out of memory stand"
+# A delivery of a notice that nobody takes, which records 31 bytes.
+cp "$start" "$room/asked"
+body='{"callbackUri":"http://127.0.0.1:1/n"}'
+printf 'POST /vnflcm/v1/subscriptions HTTP/1.1\r\nContent-Length: %s\r\n\r\n%s' "${#body}" "$body" >"$room/subscribe"
+once <"$room/subscribe"
+once <"$request"
+begun=$(bytes_of "$room/asked")
+fail_each "a delivery" "status 0, done after 1 rounds, $((begun + 31)) bytes" "status 6, no memory, $begun bytes
+status 0, HTTP/1.1 503 Service Unavailable,done after 1 rounds, $((begun + 31)) bytes" "$room/asked" /dev/null once
+
+# A turn of two grants, which the program doesn't reach yet, and deliveries to two receivers that take what they are told:
+# lcm_cases plays them over the objects in memory. Where an allocation of what it reads or plays the run with fails, it says
+# that there was no memory; else the run comes out as it is to. The toolchain proves and builds it.
 whole="alone: 1 runs, 0 wrong
 1 runs, 0 wrong"
-python3 -B "$here/tests/runs.py" "$turn" >"$room/turn" || exit 1
-(cd "$here/crates/lcm_cases" && exec rt run) <"$room/turn" >"$room/out" 2>&1 || { cat "$room/out" >&2; exit 1; }
-count=1
-played=0
-while rm -f "$room/failed"
-    FAIL_AT=$count FAIL_TOLD=$room/failed LD_PRELOAD=$room/fail.so "$here/crates/lcm_cases/out/lcm_cases" <"$room/turn" \
-        >"$room/out" 2>&1
-    status=$?
-    [ -e "$room/failed" ] && [ "$count" -lt 10000 ]; do
-    case "$status, $(cat "$room/out")" in
-    "0, $whole") played=$((played + 1)) ;;
-    *"an act is no memory"*) ;;
-    *"a line is no JSON"* | *"a text is spelled as one"* | *memory*) ;;
-    *) expect "a turn of two grants, allocation $count" "status $status, $(cat "$room/out")" "$whole" ;;
-    esac
-    count=$((count + 1))
-done
-expect "a turn of two grants, behind the last allocation" "$(cat "$room/out")" "$whole"
-echo "a turn of two grants, allocations that failed in turn: $((count - 1)), of which the run was played behind $played"
-[ "$played" -gt 0 ] || differs=1
+play_each() { # WHAT TITLE
+    python3 -B "$here/tests/runs.py" "$2" >"$room/run" || exit 1
+    (cd "$here/crates/lcm_cases" && exec rt run) <"$room/run" >"$room/out" 2>&1 || { cat "$room/out" >&2; exit 1; }
+    count=1
+    played=0
+    while rm -f "$room/failed"
+        FAIL_AT=$count FAIL_TOLD=$room/failed LD_PRELOAD=$room/fail.so "$here/crates/lcm_cases/out/lcm_cases" <"$room/run" \
+            >"$room/out" 2>&1
+        status=$?
+        [ -e "$room/failed" ] && [ "$count" -lt 10000 ]; do
+        case "$status, $(cat "$room/out")" in
+        "0, $whole") played=$((played + 1)) ;;
+        *"an act is no memory"*) ;;
+        *"a line is no JSON"* | *"a text is spelled as one"* | *memory*) ;;
+        *) expect "$1, allocation $count" "status $status, $(cat "$room/out")" "$whole" ;;
+        esac
+        count=$((count + 1))
+    done
+    expect "$1, behind the last allocation" "$(cat "$room/out")" "$whole"
+    echo "$1, allocations that failed in turn: $((count - 1)), of which the run was played behind $played"
+    [ "$played" -gt 0 ] || differs=1
+}
+play_each "a turn of two grants" "the acts before one that is out of memory stand"
+play_each "two deliveries" "no notice is posted where there is no memory to record it"
 
 exit "$differs"

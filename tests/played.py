@@ -12,11 +12,11 @@ import run_parts
 import run_texts
 import views
 import working
-from working import CREATED, DONE, ONBOARDED, WAYS, DiskFailed, Grants, Manager, Site
+from working import CREATED, DONE, ONBOARDED, WAYS, Courier, DiskFailed, Grants, Manager, Site
 
 PLAYED = (
     *["runs_forward", "runs_rollbacks", "runs_cancels", "runs_stops", "runs_windows", "runs_asks", "runs_scaling", "runs_healing", "runs_powers"],
-    *["runs_terminations", "runs_troubles", "runs_lives"],
+    *["runs_terminations", "runs_troubles", "runs_lives", "runs_subscriptions", "runs_deliveries"],
 )
 # What lcm_cases has of its short lives (src/lives.rt): rounds of each, how many there are at most, and where each is stopped.
 SHORT_LIFE, LIVES = 7, 60
@@ -71,13 +71,22 @@ def in_file(records):
 
 
 class Life:
-    """A whole life: its site, the steps before it and its own, where an attempt had no job all steps instead, and what the lives before it did."""
+    """A whole life: its site, the steps before it and its own, where an attempt had no job all steps instead, what the lives before it did, and what it
+    posted, behind how many records of lives before it."""
 
-    def __init__(self, site, before, steps, lost, earlier):
+    def __init__(self, site, before, steps, lost, earlier, lines, old_records):
         self.site, self.before, self.steps, self.lost, self.earlier = site, before, steps, lost, earlier
+        self.lines, self.posts, self.old_records = lines, site.posts(), old_records
 
-    def standing(self, calls):
-        return calls // 4 + (calls % 4 == 3)
+    def standing(self, writing):
+        return writing // 4 + (writing % 4 == 3)
+
+    def posts_until(self, call):
+        """How many posts were made until this call on record; the one before it was."""
+        return sum(it[0] <= call for it in self.posts)
+
+    def posts_recorded(self, records):
+        return sum(it[1] < records for it in self.posts)
 
 
 def same_file(wanted, came):
@@ -111,10 +120,11 @@ class Stage:
         self.is_patient = is_patient
         self.plans, self.room, self.failing, self.blind_call = [], 40, [], None
         self.site, self.base, self.kept, self.granting, self.lost_count = Site(), 0, {} if kept is None else kept, Grants(), 0
-        self.doors, self.says = [], []
+        self.doors, self.says, self.receipts = [], [], []
+        self.lines, self.posted = [], []
         self.status, self.told, self.bodies, self.expected, self.before = 0, "", "", [], []
         self.earlier, self.whole = (0, 0, 0), None
-        self.place = self.records = self.begins = 0
+        self.place = self.records = self.begins = self.posts = 0
         self.calls_behind = self.lost = None
 
     # -- texts
@@ -144,15 +154,39 @@ class Stage:
         """So many rounds, each with the connection that is planned for it, where one is."""
         self.told, self.status, self.before = "", 0, list(self.site.records)
         doors, self.doors = self.doors, []
+        courier = self.take_courier()
         try:
-            manager = Manager(self.site, orchestrator)
+            manager = Manager(self.site, orchestrator, courier)
             for number in range(rounds):
                 if number < len(doors) and doors[number] is not None:
                     self.told = ""
                     self.answer(manager, doors[number], role)
                 manager.turn()
+                manager.deliver_all()
         except DiskFailed:
             self.status = 3
+
+    def take_courier(self):
+        """The courier of the next command, whose posts are answered as is planned; what it posts is kept."""
+        courier, self.receipts = Courier(self.receipts), []
+        self.lines = courier.lines
+        return courier
+
+    def deliveries(self, text):
+        self.before = list(self.site.records)
+        try:
+            came = "%d %d" % Manager(self.site, None, self.take_courier()).deliver_all()
+        except DiskFailed:
+            came = "site fault"
+        same("deliveries", text, came)
+
+    def waits(self, number, place):
+        subscription = Manager(self.site).history.subscription(number)
+        same("what waits", place, (subscription and subscription.first()) or 0)
+
+    def starved_posts(self, files):
+        Manager(self.site).deliver_all()
+        self.has_file(files[-1])
 
     def rounds(self, count, text=None, told=None):
         self.doors += [] if text is None else [text]
@@ -269,10 +303,11 @@ class Stage:
     # -- whole lives
 
     def life(self, before, steps, lost=None):
-        self.whole = Life(self.site, explicit(before), explicit(steps), [explicit(it) for it in lost] if lost is not None else None, self.earlier)
+        lost = [explicit(it) for it in lost] if lost is not None else None
+        self.whole = Life(self.site, explicit(before), explicit(steps), lost, self.earlier, self.lines, len(self.before))
 
-    def at_stop(self, place, behind, records, begins):
-        self.place, self.calls_behind, self.records, self.begins = place, behind, records, begins
+    def at_stop(self, place, behind, records, begins, posts):
+        self.place, self.calls_behind, self.records, self.begins, self.posts = place, behind, records, begins, posts
         some = self.whole.steps[:records] if records <= len(self.whole.steps) else []
         begun = sum(isinstance(it, tuple) and it[3] == "intent" for it in some)
         is_lost = some and isinstance(some[-1], tuple) and some[-1][3] == "intent" and begun > begins
@@ -282,21 +317,23 @@ class Stage:
         self.granting = Grants()
         self.site = self.whole.site.stopped(moment, choice)
         disk, begins, _, _ = self.whole.site.calls(moment)
-        behind = disk - self.whole.site.opening()
-        records = self.whole.standing(max(behind, 0)) if choice == "new" else max(behind, 0) // 4
-        self.at_stop(moment, behind if behind >= 0 else None, records, begins)
+        behind, writing = disk - self.whole.site.opening(), self.whole.site.writing(moment)
+        records = self.whole.standing(writing) if choice == "new" else writing // 4
+        self.at_stop(moment, behind if behind >= 0 else None, records, begins, self.whole.posts_until(moment - 1))
         self.lost_count += self.lost is not None
 
     def fail_at(self, call):
         self.failing = [self.whole.earlier[2] + call + 1]
-        behind = call - self.whole.site.opening()
         self.granting = Grants()
-        self.at_stop(call, behind if behind >= 0 else None, self.whole.standing(max(behind, 0)), 0)
+        self.at_fault(call, 0)
+
+    def at_fault(self, call, begins):
+        behind, place = call - self.whole.site.opening(), self.whole.site.place_of_call(call)
+        records = self.whole.standing(self.whole.site.writing(place))
+        self.at_stop(call, behind if behind >= 0 else None, records, begins, self.whole.posts_until(place))
 
     def fallen(self):
-        begins = self.site.calls()[1] - self.whole.earlier[1]
-        behind = self.calls_behind
-        self.at_stop(self.place, behind, self.whole.standing(behind or 0), begins)
+        self.at_fault(self.place, self.site.calls()[1] - self.whole.earlier[1])
         self.granting = Grants()
         same("status", 3, self.status)
 
@@ -304,6 +341,11 @@ class Stage:
         same("what is left", self.whole.before + self.whole.steps[: self.records], self.steps_left())
         same("jobs", self.whole.earlier[0] + self.begins, len(self.site.jobs))
         self.agrees()
+
+    def is_kept(self):
+        records = self.whole.site.records[: self.whole.old_records + self.records]
+        same("what is kept", records, self.site.records)
+        same("events of posts that don't stand", [], [it for it in self.whole.posts[: self.posts] if it[2] > len(records)])
 
     def again(self):
         if self.lost is None:
@@ -340,15 +382,16 @@ class Stage:
                 raise Differs("%s, %s: %s" % (where, act[0], fault)) from None
 
     def lives(self, first, choice, text):
-        end = next(state for state, name in run_texts.MOVED.items() if name == text)
         for life in range(LIVES):
-            if self.site.records[-1] == ("moved", 1, views.STATES.index(end)):
+            if in_file(self.site.records[-1:]) == self.text(text):
                 return
             self.granting = Grants()
             self.command(SHORT_LIFE, self.granting)
             before = self.before
-            last = self.site.opening() + length_of(first + life)
-            self.site = self.site.stopped(min(last, len(self.site.log)), choice)
+            last = min(self.site.opening() + length_of(first + life), len(self.site.log))
+            made = sum(it[0] <= last - 1 for it in self.site.posts())
+            self.posted += [it for it in self.lines[:made] if it not in self.posted]
+            self.site = self.site.stopped(last, choice)
             same("the records before", before, self.site.records[: len(before)])
         raise Differs("others behind %d lives" % LIVES)
 
@@ -388,6 +431,12 @@ class Stage:
             "nobody": lambda: self.doors.append(None),
             "says": lambda status, location, text: self.says.append((status, self.text(text))),
             "bodies": lambda text: same_file(self.text(text), self.bodies),
+            "receipts": lambda *answers: setattr(self, "receipts", list(answers)),
+            "posted": lambda text: same_file(self.text(text), "".join(self.lines)),
+            "posted once": lambda text: same_file(self.text(text), "".join(self.posted)),
+            "posted so far": lambda: same("posts", self.whole.lines[: self.posts], self.lines),
+            "posted again": lambda: same("posts", self.whole.lines[self.whole.posts_recorded(self.records) :], self.lines),
+            "kept": self.is_kept, "deliveries": self.deliveries, "waits": self.waits, "starved posts": self.starved_posts,
             "go": self.go, "instance": self.instance, "opened": self.is_opened,
             "moment": lambda wanted: same("moment", wanted, len(site.log)),
             "does": lambda place, text: same("work", text, site.jobs[place].does),

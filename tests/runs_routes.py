@@ -11,7 +11,7 @@ for line, detail, targets in [
         *[NOT_FOUND, "no such resource"],
         ["GET /", "GET *", "GET /vnflcm/v1", "GET /vnflcm/v1/vnf_packages", "GET /vnflcm/v1/vnf_instances/", "GET /vnflcm/v1//vnf_instances"]
         + ["GET /vnflcm/v1/VNF_INSTANCES", "GET /vnflcm/v1/vnf%5Finstances", "GET http://h/vnflcm/v1/vnf_instances"]
-        + ["DELETE /vnflcm/v1/subscriptions/x", "POST /vnflcm/v1/vnf_instances/x/snap", "POST /vnflcm/v1/vnf_instances/x/heal/y"],
+        + ["DELETE /vnflcm/v1/subscriptions/x/y", "POST /vnflcm/v1/vnf_instances/x/snap", "POST /vnflcm/v1/vnf_instances/x/heal/y"],
     ),
     (NOT_ALLOWED + "GET", "method not allowed", ["PUT /vnflcm/v1/vnf_lcm_op_occs", "DELETE /vnflcm/v1/vnf_lcm_op_occs/x"]),
     (

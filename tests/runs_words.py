@@ -656,6 +656,7 @@ def each_told(method, paths, answer):
     return once([request(method, utf8(it)) for it in paths], [{"times": len(paths), "of": answer}])
 
 
+SUBSCRIPTIONS = "/vnflcm/v1/subscriptions"
 TASKS = "instantiate", "scale", "scale_to_level", "change_flavour", "terminate", "heal", "operate"
 OCCURRENCE_TASKS = "retry", "rollback", "fail", "cancel"
 NAMED = [INSTANCES + "/" + it for it in ("i", (INSTANCE % 1)[-36:], "scale", "%2F", "{id}", "vnf_instances", "ä", "*", "00000000")]
@@ -666,7 +667,7 @@ run(
     *[each_told("PUT", [*(INSTANCES + "/i/" + it for it in TASKS), INSTANCES + "/scale/scale", INSTANCE % 1 + "/heal"], ONLY_POST)],
     *[each_told("PUT", [OCCURRENCES, OCCURRENCES + "/o", OCCURRENCES + "/retry"], ONLY_GET)],
     *[each_told("PUT", [*(OCCURRENCES + "/o/" + it for it in OCCURRENCE_TASKS), OCCURRENCES + "/retry/retry"], ONLY_POST)],
-    *[each_told("GET", ["/vnflcm/v1/subscriptions", "/vnflcm/v1/subscriptions/s"], NO_RESOURCE)],
+    *[each_told("PUT", [SUBSCRIPTIONS], ONLY_GET_POST), each_told("PUT", [SUBSCRIPTIONS + "/s", SUBSCRIPTIONS + "/retry"], ONLY_DELETE_GET)],
     # (the body of a change of flavour isn't read; those of the others are, and none is there)
     *[each_told("POST", [INSTANCE % 1 + "/" + it for it in TASKS if it != "change_flavour"], NO_JSON)],
     *[each_told("POST", [INSTANCE % 1 + "/change_flavour"], NO_TASK), each_told("GET", NAMED[:1] + NAMED[2:], NO_INSTANCE)],
@@ -692,7 +693,7 @@ NO_FILTERS = "", "filter", "x", "afilter=y", "x=filter=y", "Filter=y", "filte%72
 run(
     "a list is not filtered, by whatever stands in its query",
     ["site", JOURNAL],
-    *[each_told("GET", [path + "?" + it for it in FILTERS], NO_FILTER) for path in (INSTANCES, OCCURRENCES)],
-    *[each_told("GET", [path + "?" + it for it in NO_FILTERS], EMPTY_LIST) for path in (INSTANCES, OCCURRENCES)],
+    *[each_told("GET", [path + "?" + it for it in FILTERS], NO_FILTER) for path in (INSTANCES, OCCURRENCES, SUBSCRIPTIONS)],
+    *[each_told("GET", [path + "?" + it for it in NO_FILTERS], EMPTY_LIST) for path in (INSTANCES, OCCURRENCES, SUBSCRIPTIONS)],
     *[once(request("GET", INSTANCE % 1 + "?filter=x"), NO_INSTANCE), once(request("GET", OCCURRENCE % 1 + "?filter=x"), NO_OCCURRENCE)],
 )

@@ -1,6 +1,7 @@
 """The runs that are to go wrong, one for each kind of difference: what is told of each stands in crates/lcm_cases/stdout, written by hand."""
 from run_texts import *
 from runs_forward import SITE
+from runs_notices import FIRST_SUBSCRIBED, WAS_CREATED, journal_with, post_of
 
 begin(__name__, wrong=True)
 
@@ -21,6 +22,11 @@ run("to go wrong: a job that isn't done", *FIVE, ["done jobs", 0, 1])
 run("to go wrong: a job that isn't there", *FIVE, ["job", 2, 1, 2, 1, "forward"])
 run("to go wrong: numbers", *FIVE, ["jobs", 2, 2])
 run("to go wrong: calls on jobs", *FIVE, ["calls on jobs", "begin 1 0 1 forward: taken\nbegin 1 1 1 forward: taken\nlook 1 0 1 forward: running\n"])
+
+# What is posted, by its first line that differs; the place of a notice that waits.
+TOLD = journal_with(FIRST_SUBSCRIBED, CREATION[1])
+run("to go wrong: a post", TOLD, ["deliveries", "1 0"], ["posted", post_of(1, 3, WAS_CREATED, status=500)])
+run("to go wrong: a notice that waits", TOLD, ["waits", 1, 4])
 
 # Acts within acts, by the first stop or front, with the number of the others. Behind the eight calls that open the journal, four records are four
 # calls each, and then a job is begun: of the moments 0 to 25 only the last has it.

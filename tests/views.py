@@ -1,11 +1,12 @@
-"""What the interface shows of a history of the model in history.py: its instances and occurrences as JSON, by docs/FORMATS.md."""
+"""What the interface shows of a history of the model in history.py: its instances, occurrences and subscriptions as JSON, and what is posted of its
+events, by docs/FORMATS.md."""
 import datetime
 import json
 
 import history
 from history import COMPLETED, COMPUTE, FAILED_TEMP, LINK, STARTING, STORAGE
 
-INSTANCES, OCCURRENCES = "/vnflcm/v1/vnf_instances", "/vnflcm/v1/vnf_lcm_op_occs"
+INSTANCES, OCCURRENCES, SUBSCRIPTIONS = "/vnflcm/v1/vnf_instances", "/vnflcm/v1/vnf_lcm_op_occs", "/vnflcm/v1/subscriptions"
 STATES = ["STARTING", "PROCESSING", "COMPLETED", "FAILED_TEMP", "FAILED", "ROLLING_BACK", "ROLLED_BACK"]
 OPERATIONS = {
     "instantiate": "INSTANTIATE", "scale": "SCALE", "level": "SCALE_TO_LEVEL", "aspects": "SCALE_TO_LEVEL", "heal": "HEAL", "operate": "OPERATE",
@@ -26,7 +27,7 @@ def moment(milliseconds):
 
 
 def path(number, kind):
-    return (INSTANCES, OCCURRENCES)[kind - 1] + "/" + history.identifier(number, kind)
+    return (INSTANCES, OCCURRENCES, SUBSCRIPTIONS)[kind - 1] + "/" + history.identifier(number, kind)
 
 
 def hrefs(at, tasks, **more):
@@ -178,3 +179,54 @@ def instances(h):
 
 def occurrences(h):
     return written([occurrence(n, o) for n, o in enumerate(h.occurrences, 1)])
+
+
+# ---- Subscriptions and notices
+
+NOTICES = ["VnfLcmOperationOccurrenceNotification", "VnfIdentifierCreationNotification", "VnfIdentifierDeletionNotification"]
+# The operations that a filter may name, by their numbers from 1; 7 to 9 are of no ask.
+TYPES_ASKED = [
+    *["INSTANTIATE", "SCALE", "SCALE_TO_LEVEL", "HEAL", "OPERATE", "TERMINATE", "CHANGE_FLAVOUR", "CHANGE_EXT_CONN", "MODIFY_INFO"],
+]
+
+
+def those_there(members):
+    """These members, but those without a value."""
+    return {title: value for title, value in members.items() if value}
+
+
+def subscription(number, s):
+    """A subscription; of its filter the lists that have values, where there are some."""
+    asked = s.filter
+    about = those_there({"vnfdIds": asked.vnfds, "vnfInstanceIds": asked.instances, "vnfInstanceNames": asked.names})
+    lists = {
+        "notificationTypes": [NOTICES[it] for it in asked.notices], "operationStates": [STATES[it] for it in asked.states],
+        "operationTypes": [TYPES_ASKED[it - 1] for it in asked.operations], "vnfInstanceSubscriptionFilter": about,
+    }
+    view = {"_links": hrefs(path(number, 3), {}), "callbackUri": s.callback, "id": history.identifier(number, 3)}
+    return {**view, **those_there({"filter": those_there(lists)})}
+
+
+def subscriptions(h, role):
+    """Those of a role, which sees its own alone."""
+    return written([subscription(*it) for it in h.subscriptions_of(role)])
+
+
+def notice(number, place, event, h, at=history.FIRST_MOMENT):
+    """What a subscription is told of the event at this place, which happened at that moment."""
+    kind, of, *more = event
+    about, links = of, {}
+    if kind in ("asked", "moved"):
+        occurrence_of = h.occurrence(of)
+        state = STARTING if kind == "asked" else more[0]
+        about, links = occurrence_of.instance, {"vnfLcmOpOcc": {"href": path(of, 2)}}
+        told = {
+            "isAutomaticInvocation": False, "notificationStatus": "START" if state in history.ACTIVE else "RESULT", "notificationType": NOTICES[0],
+            "operation": OPERATIONS[occurrence_of.ask[0]], "operationState": STATES[state], "vnfLcmOpOccId": history.identifier(of, 2),
+        }
+    else:
+        told = {"notificationType": NOTICES[{"created": history.CREATION, "deleted": history.DELETION}[kind]]}
+    return {
+        "_links": {"subscription": {"href": path(number, 3)}, "vnfInstance": {"href": path(about, 1)}, **links}, "id": history.identifier(place, 4),
+        "subscriptionId": history.identifier(number, 3), "timeStamp": moment(at), "vnfInstanceId": history.identifier(about, 1), **told,
+    }

@@ -1,11 +1,13 @@
-"""What a manager does for operations by itself, by the rules of docs/FORMATS.md, docs/JOBS.md and docs/JOURNAL.md in another language: its acts, the
-calls that they make on a site, the work of the jobs that these begin, the records that they leave, and what a stop among the calls leaves.
+"""What a manager does by itself, by the rules of docs/FORMATS.md, docs/JOBS.md and docs/JOURNAL.md in another language: its acts for operations, the
+calls that they make on a site, the work of the jobs that these begin, the deliveries of a round, the records that all these leave, and what a stop among
+the calls leaves.
 
 A record is an event of tests/history.py, whose history says what is so of instances and of operations of all kinds. tests/played.py plays runs over this.
 """
 import collections
 
 import history
+import views
 from history import COMPLETED, COMPUTE, CREATE, FAILED_TEMP, FORCEFUL, FORWARD, LINK, NO_VDU, PORT, PROCESSING, ROLLED_BACK, ROLLING_BACK
 from history import STARTING, STORAGE, Tag, u8, u64
 
@@ -170,6 +172,11 @@ class Site:
         self.records.append(record)
         self.call("sync")
 
+    def read_back(self):
+        """A record is read back: its head and its bytes."""
+        self.call("read")
+        self.call("read")
+
     def job_of(self, tag):
         return next((it for it in reversed(self.jobs) if it.tag == tag), None)
 
@@ -227,6 +234,21 @@ class Site:
         left = self.first + put[: self.standing(moment, choice)]
         return Site(left, [it.stood(moment) for it in self.jobs if it.at <= moment], room=self.room)
 
+    def writing(self, moment=None):
+        """The writes and syncs up to this moment behind the calls that open the journal."""
+        return sum(it[0] in ("write", "gate", "sync") for it in self.log[self.opening() : moment])
+
+    def place_of_call(self, call):
+        """The place on record of this call on the disk."""
+        disk = [place for place, it in enumerate(self.log) if it[0] not in ("begin", "look", "abort")]
+        return disk[call] if call < len(disk) else len(self.log)
+
+    def posts(self):
+        """The posts on record, each as the place of the call that begins its record, the number of that record, and the event that was told of. A
+        record is a write, a sync, its gate and a sync."""
+        gates = [(place, it[1]) for place, it in enumerate(self.log) if it[0] == "gate"]
+        return [(place - 2, number, record[2]) for number, (place, record) in enumerate(gates) if record[0] == "posted"]
+
     def calls(self, moment=None):
         """The calls on the disk, the begins, the looks and the aborts on record."""
         of = collections.Counter(it[0] for it in self.log[:moment])
@@ -266,11 +288,23 @@ class Grants:
         return "granted", number, "g%d" % self.asked, [("vim1", "")] if o.changes else [], [0] * len(o.changes)
 
 
+class Courier:
+    """A courier whose posts are answered so in turn, with a status or not at all, and behind these with 204: what it posted, each post a line."""
+
+    def __init__(self, receipts=()):
+        self.receipts, self.lines = list(receipts), []
+
+    def post(self, callback, body):
+        answer = self.receipts.pop(0) if self.receipts else 204
+        self.lines.append("%s %s %s\n" % (answer, callback, body))
+        return answer
+
+
 class Manager:
     """A manager of a site, whose records make its history."""
 
-    def __init__(self, site, orchestrator=None):
-        self.site, self.orchestrator, self.history = site, orchestrator or Grants(), history.History(None)
+    def __init__(self, site, orchestrator=None, courier=None):
+        self.site, self.orchestrator, self.courier, self.history = site, orchestrator or Grants(), courier or Courier(), history.History(None)
         site.load()
         self.follow_all(site.records)
 
@@ -332,3 +366,20 @@ class Manager:
         for number, o in [it for it in enumerate(self.history.occurrences, 1) if it[1].is_active()]:
             counts[self.act(number, o)] += 1
         return tuple(counts)
+
+    def deliver(self, number):
+        """Posts the first notice that waits for a live subscription, where one does, and records whether it was taken: how often it was and wasn't."""
+        subscription = self.history.subscription(number)
+        place = subscription.first()
+        if place is None:
+            return 0, 0
+        self.site.read_back()
+        body = views.written(views.notice(number, place, self.site.records[place - 1], self.history))
+        is_taken = self.courier.post(subscription.callback, body) == 204
+        self.record("posted", number, place, history.DELIVERED if is_taken else history.NOT_TAKEN)
+        return int(is_taken), int(not is_taken)
+
+    def deliver_all(self):
+        """One delivery for each live subscription, in the order of their numbers: how many notices were taken, and how many weren't."""
+        counts = [self.deliver(number) for number, it in enumerate(self.history.subscriptions, 1) if it.live]
+        return sum(it[0] for it in counts), sum(it[1] for it in counts)

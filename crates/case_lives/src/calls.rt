@@ -1,4 +1,4 @@
-//! The calls on a site, and which records of an operation a stop or a fault among them leaves.
+//! The calls on a site, and which records of a life a stop or a fault among them leaves.
 
 use crate::records::{At, Step};
 use site_traits::{Choice, MemSite, SiteCall};
@@ -11,6 +11,8 @@ const CALLS: usize = 4;
 pub struct Calls {
     /// Calls on the disk.
     pub disk: usize,
+    /// Writes, cuts and syncs among them.
+    pub writing: usize,
     /// Begins.
     pub begins: usize,
     /// Looks.
@@ -23,6 +25,7 @@ pub struct Calls {
 pub fn calls_until(site: &MemSite, moment: usize) -> Calls {
     let mut calls = Calls {
         disk: 0,
+        writing: 0,
         begins: 0,
         looks: 0,
         aborts: 0,
@@ -32,7 +35,11 @@ pub fn calls_until(site: &MemSite, moment: usize) -> Calls {
             SiteCall::Began { .. } => calls.begins = calls.begins.saturating_add(1),
             SiteCall::Looked { .. } => calls.looks = calls.looks.saturating_add(1),
             SiteCall::Aborted { .. } => calls.aborts = calls.aborts.saturating_add(1),
-            _ => calls.disk = calls.disk.saturating_add(1),
+            SiteCall::Length | SiteCall::Read { .. } => calls.disk = calls.disk.saturating_add(1),
+            _ => {
+                calls.disk = calls.disk.saturating_add(1);
+                calls.writing = calls.writing.saturating_add(1);
+            }
         }
     }
     calls
@@ -54,7 +61,26 @@ pub fn opening(site: &MemSite) -> usize {
     site.moment()
 }
 
-/// How many of the operation's records a stop leaves behind so many disk calls of them, where what isn't synced is left
+/// The writes and syncs up to this moment behind the calls that open the journal.
+pub fn writing_until(site: &MemSite, moment: usize) -> usize {
+    let before = calls_until(site, opening(site)).writing;
+    calls_until(site, moment).writing.saturating_sub(before)
+}
+
+/// The place on record of this call on the disk, from 0 over these; the end, where there are fewer.
+pub fn place_of_call(site: &MemSite, call: usize) -> usize {
+    let mut left = call;
+    for place in 0..site.moment() {
+        match site.call(place) {
+            SiteCall::Began { .. } | SiteCall::Looked { .. } | SiteCall::Aborted { .. } => {}
+            _ if left == 0 => return place,
+            _ => left = left.saturating_sub(1),
+        }
+    }
+    site.moment()
+}
+
+/// How many of a life's records a stop leaves behind so many writes and syncs of them, where what isn't synced is left
 /// like this: those whose gates are open on the disk.
 pub fn left_behind(calls: usize, choice: Choice) -> usize {
     match choice {
@@ -63,7 +89,7 @@ pub fn left_behind(calls: usize, choice: Choice) -> usize {
     }
 }
 
-/// How many of the operation's records stand behind so many disk calls of them: a record stands once its gate was
+/// How many of a life's records stand behind so many writes and syncs of them: a record stands once its gate was
 /// written.
 pub fn records_standing(calls: usize) -> usize {
     let whole = calls / CALLS;

@@ -1,8 +1,12 @@
 //! Lives that are stopped at each moment, or of which each disk call fails in turn: what is left, and which attempt had
 //! no job yet.
 
-use crate::calls::{calls_of, calls_until, left_behind, not_begun, opening, records_standing};
+use crate::calls::{
+    calls_of, calls_until, left_behind, not_begun, opening, place_of_call, records_standing,
+    writing_until,
+};
 use crate::plan::plain_site;
+use crate::posts::{Sent, made_until, recorded_by};
 use crate::records::Step;
 use site_traits::{Choice, MemSite};
 use std::alloc::{AllocError, Global};
@@ -52,6 +56,12 @@ pub struct Whole {
     pub lost: Vec<Vec<Step>>,
     /// The lives before it.
     pub earlier: Earlier,
+    /// The records that the file had before it.
+    pub old_records: usize,
+    /// Its posts.
+    pub posts: Vec<Sent>,
+    /// What it posted, each in a line.
+    pub lines: Vec<u8>,
 }
 
 impl Drop for Whole {
@@ -63,6 +73,9 @@ impl Drop for Whole {
             steps: _,
             lost: _,
             earlier: _,
+            old_records: _,
+            posts: _,
+            lines: _,
         } = self;
     }
 }
@@ -76,6 +89,9 @@ impl Whole {
             steps: Vec::new(alloc),
             lost: Vec::new(alloc),
             earlier: Earlier::none(),
+            old_records: 0,
+            posts: Vec::new(alloc),
+            lines: Vec::new(alloc),
         })
     }
 
@@ -94,27 +110,46 @@ impl Whole {
     pub fn stop(&self, moment: usize, choice: Choice) -> Stop {
         let calls = calls_until(&self.site, moment);
         let behind = calls.disk.checked_sub(opening(&self.site));
-        let records = left_behind(behind.unwrap_or(0), choice);
-        self.behind(moment, behind, records, calls.begins)
+        let records = left_behind(writing_until(&self.site, moment), choice);
+        let posts = match moment.checked_sub(1) {
+            Some(last) => made_until(&self.posts, last),
+            None => 0,
+        };
+        self.behind(moment, behind, records, calls.begins, posts)
     }
 
     /// What is there of it where this disk call of its own, from 0, fails, and so many begins were made.
     pub fn fault(&self, call: usize, begins: usize) -> Stop {
         let behind = call.checked_sub(opening(&self.site));
-        let records = records_standing(behind.unwrap_or(0));
-        self.behind(call, behind, records, begins)
+        let place = place_of_call(&self.site, call);
+        let records = records_standing(writing_until(&self.site, place));
+        let posts = made_until(&self.posts, place);
+        self.behind(call, behind, records, begins, posts)
     }
 
-    /// So many of its records and begins.
-    fn behind(&self, place: usize, calls: Option<usize>, records: usize, begins: usize) -> Stop {
+    /// So many of its records, begins and posts.
+    fn behind(
+        &self,
+        place: usize,
+        calls: Option<usize>,
+        records: usize,
+        begins: usize,
+        posts: usize,
+    ) -> Stop {
         Stop {
             place,
             act: 0,
             calls,
             records,
             begins,
+            posts,
             lost: not_begun(&self.steps, records, begins),
         }
+    }
+
+    /// How many of its posts are recorded behind this stop.
+    pub fn recorded_posts(&self, stop: Stop) -> usize {
+        recorded_by(&self.posts, stop.records)
     }
 
     /// The steps of it and of the lives before it, up to so many of its own.
@@ -160,6 +195,8 @@ pub struct Stop {
     pub records: usize,
     /// Its begins.
     pub begins: usize,
+    /// Its posts; the last may have no record yet.
+    pub posts: usize,
     /// The attempt of the life, by its number from 0, that has no job yet.
     pub lost: Option<usize>,
 }
@@ -173,6 +210,7 @@ impl Stop {
             calls: None,
             records: 0,
             begins: 0,
+            posts: 0,
             lost: None,
         }
     }

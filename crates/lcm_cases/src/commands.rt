@@ -14,7 +14,7 @@ use lcm_mouth::Mouth;
 use lcm_sessions::answer_session;
 use occ_work::{Turn, turn};
 use serde_json::Value;
-use site_traits::{Choice, DoorPlan, MemDoor, MemSite, NextAnswer, SetClock, SiteCall};
+use site_traits::{Choice, DoorPlan, MemDoor, MemSite, NextAnswer, PostPlan, SetClock, SiteCall};
 use std::alloc::{AllocError, Global};
 use std::mem;
 use vnfm_base::{Moment, Text};
@@ -118,8 +118,13 @@ impl Stage {
         mem::replace(&mut self.outside.door, Vec::new(alloc))
     }
 
+    /// What is planned of posts.
+    pub fn receipts(&mut self, alloc: Global) -> Vec<PostPlan> {
+        mem::replace(&mut self.outside.receipts, Vec::new(alloc))
+    }
+
     /// Keeps the file as it is before a command.
-    fn keep_file(&mut self, alloc: Global) -> Result<(), AllocError> {
+    pub fn keep_file(&mut self, alloc: Global) -> Result<(), AllocError> {
         self.before = self.site.file().to_vec(alloc)?;
         Ok(())
     }
@@ -128,7 +133,7 @@ impl Stage {
     fn run_words(&mut self, alloc: Global, words: &[Text]) -> Result<(), AllocError> {
         self.keep_file(alloc)?;
         let says = mem::replace(&mut self.outside.says, Vec::new(alloc));
-        let door = self.door(alloc);
+        let (door, receipts) = (self.door(alloc), self.receipts(alloc));
         let mut orchestrator = Recorder::new(alloc, says)?;
         let (put, now) = (self.outside.put, self.outside.now);
         self.ran = run_over(
@@ -137,6 +142,7 @@ impl Stage {
             &mut self.site,
             door,
             &mut orchestrator,
+            receipts,
             put,
             now,
         )?;
@@ -148,7 +154,7 @@ impl Stage {
     /// Runs these words, with the orchestrator that grants all.
     fn run_granted(&mut self, alloc: Global, words: &[Text]) -> Result<(), AllocError> {
         self.keep_file(alloc)?;
-        let door = self.door(alloc);
+        let (door, receipts) = (self.door(alloc), self.receipts(alloc));
         let (put, now) = (self.outside.put, self.outside.now);
         self.ran = run_over(
             alloc,
@@ -156,6 +162,7 @@ impl Stage {
             &mut self.site,
             door,
             &mut self.granting,
+            receipts,
             put,
             now,
         )?;

@@ -4,7 +4,7 @@
 use crate::stage::Stage;
 use case_lives::{
     ActFault, CaseFault, Step, calls_of, count, differs, entries, front_of, list, opening, part,
-    plain_site, quoted, same_text, steps_of,
+    plain_site, posts_of, quoted, records_in, same_text, steps_of,
 };
 use grant_desk::GrantAll;
 use serde_json::Value;
@@ -41,12 +41,15 @@ impl Stage {
     /// `["life", [STEP..], [STEP..], [[STEP..]..]]`: what was done on the site, since it was made or renewed, is a
     /// whole life of the second steps, behind the first ones. The third may be left out: for each attempt that the life
     /// begins, in order, the steps in place of the second ones, where that attempt had no job when the life was
-    /// stopped.
+    /// stopped. What was posted is what the last command posted.
     pub fn take_life(&mut self, alloc: Global, act: &[Value]) -> Result<(), CaseFault> {
         let (before, steps) = (list(act, 1)?, list(act, 2)?);
         self.whole.before = steps_of(alloc, before)?;
         self.whole.steps = steps_of(alloc, steps)?;
         self.whole.lost = lost_of(alloc, act)?;
+        self.whole.old_records = records_in(&self.before);
+        self.whole.posts = posts_of(alloc, &self.site)?;
+        self.whole.lines = self.ran.posts.to_vec(alloc)?;
         self.whole.site = mem::replace(&mut self.site, plain_site(alloc, &[])?);
         self.whole.earlier = self.earlier;
         Ok(())
@@ -108,6 +111,7 @@ impl Stage {
         self.granting = GrantAll::new(alloc)?;
         self.quiet_rounds(alloc, SHORT_LIFE)?;
         let last = opening(&self.site).saturating_add(length_of(life));
+        self.keep_posts(alloc, last.saturating_sub(1))?;
         self.site = self
             .site
             .stopped(alloc, last.min(self.site.moment()), choice)?;

@@ -14,6 +14,7 @@
 
 mod checks;
 mod commands;
+mod deliveries;
 mod levels;
 mod lives;
 mod modules;

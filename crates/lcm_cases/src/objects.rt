@@ -1,10 +1,10 @@
 //! The objects in memory that a run of a command is made over, and what it did to them.
 
+use crate::recorder::PostRecorder;
 use lcm_events::Role;
 use lcm_mouth::Mouth;
 use site_traits::{
-    DoorPlan, MemConn, MemCourier, MemDoor, MemOrchestrator, MemSink, MemSite, Orchestrator,
-    SetClock,
+    DoorPlan, MemConn, MemDoor, MemOrchestrator, MemSink, MemSite, Orchestrator, PostPlan, SetClock,
 };
 use std::alloc::{AllocError, Global};
 use vnfm_base::{Bytes, Text};
@@ -28,6 +28,8 @@ pub struct Ran {
     pub bodies: Vec<u8>,
     /// The locations that it was polled at, each with a line feed behind it.
     pub locations: Vec<u8>,
+    /// What was posted, each in a line: the status, or `fail`, the callback and the body.
+    pub posts: Vec<u8>,
 }
 
 impl Drop for Ran {
@@ -42,6 +44,7 @@ impl Drop for Ran {
             alike: _,
             bodies: _,
             locations: _,
+            posts: _,
         } = self;
     }
 }
@@ -58,6 +61,7 @@ impl Ran {
             alike: 0,
             bodies: Vec::new(alloc),
             locations: Vec::new(alloc),
+            posts: Vec::new(alloc),
         }
     }
 }
@@ -65,7 +69,7 @@ impl Ran {
 /// The objects of a run, but for its site and its orchestrator.
 struct Objects {
     mouth: Mouth<MemDoor>,
-    courier: MemCourier,
+    courier: PostRecorder,
     clock: SetClock,
     sink: MemSink,
 }
@@ -82,16 +86,18 @@ impl Drop for Objects {
     }
 }
 
-/// The objects with this door, a sink of which this put fails, and a clock that gives this.
+/// The objects with this door, a courier whose posts are answered so, a sink of which this put fails, and a clock that
+/// gives this.
 fn objects_of(
     alloc: Global,
     door: Vec<DoorPlan>,
+    receipts: Vec<PostPlan>,
     failing_put: Option<u64>,
     now: u64,
 ) -> Result<Objects, AllocError> {
     let clock = clock_at(alloc, now)?;
     let sink = MemSink::new(alloc, failing_put)?;
-    let courier = MemCourier::new(alloc, Vec::new(alloc))?;
+    let courier = PostRecorder::new(alloc, receipts)?;
     let mouth = mouth_at(alloc, door)?;
     Ok(Objects {
         mouth,
@@ -123,6 +129,7 @@ fn report(alloc: Global, status: u8, objects: &Objects) -> Result<Ran, AllocErro
         alike: alike(door),
         bodies: Vec::new(alloc),
         locations: Vec::new(alloc),
+        posts: objects.courier.posts.to_vec(alloc)?,
     })
 }
 
@@ -149,18 +156,19 @@ fn has_heard(conn: &MemConn, told: &[u8]) -> bool {
 /// The moment that the clock gives where no act says so.
 pub const NOW: u64 = 1_700_000_000_000;
 
-/// Runs these words over this site, this door, this orchestrator, a sink of which this put fails, and a clock that
-/// gives this.
+/// Runs these words over this site, this door, this orchestrator, a courier whose posts are answered so, a sink of
+/// which this put fails, and a clock that gives this.
 pub fn run_over<O: Orchestrator>(
     alloc: Global,
     words: &[Text],
     site: &mut MemSite,
     door: Vec<DoorPlan>,
     orchestrator: &mut O,
+    receipts: Vec<PostPlan>,
     failing_put: Option<u64>,
     now: u64,
 ) -> Result<Ran, AllocError> {
-    let mut objects = objects_of(alloc, door, failing_put, now)?;
+    let mut objects = objects_of(alloc, door, receipts, failing_put, now)?;
     let status = run(
         alloc,
         words,
@@ -230,7 +238,17 @@ fn ask_by(
 ) -> Result<Ran, AllocError> {
     let mut orchestrator = MemOrchestrator::new(alloc, Vec::new(alloc))?;
     let door = one_of(alloc, connection(alloc, bytes, bytes.len(), None, None)?)?;
-    run_over(alloc, words, site, door, &mut orchestrator, None, NOW)
+    let receipts = Vec::new(alloc);
+    run_over(
+        alloc,
+        words,
+        site,
+        door,
+        &mut orchestrator,
+        receipts,
+        None,
+        NOW,
+    )
 }
 
 /// What comes of a door to which one connection comes.

@@ -197,7 +197,7 @@ fn place_among(texts: &[Vec<u8>], bytes: &[u8]) -> Option<usize> {
 
 impl Stage {
     /// The texts that are spelled so.
-    fn texts(&self, alloc: Global, values: &[Value]) -> Result<Vec<Vec<u8>>, CaseFault> {
+    pub fn texts(&self, alloc: Global, values: &[Value]) -> Result<Vec<Vec<u8>>, CaseFault> {
         let mut texts = Vec::new(alloc);
         for value in values {
             texts.push(self.names.text(alloc, value)?)?;

@@ -165,6 +165,23 @@ fn runs(stage: &mut Stage, alloc: Global, act: &[Value]) -> Result<(), ActFault>
         "descriptor" => stage.has_descriptor(alloc, act),
         "read back" => stage.is_read_back(alloc, act),
         "lives" => stage.lives(alloc, act, choice_at(act, 2)?),
+        _ => delivers(stage, alloc, act),
+    }
+}
+
+/// Plays an act about notices: one that makes the deliveries of a round, or one that compares what was posted with a
+/// text: by the last command with `["posted", TEXT]`, each post a line of its status, or `fail`, its callback and its
+/// body; by the short lives of the run, each line where it came first, with `["posted once", TEXT]`.
+fn delivers(stage: &mut Stage, alloc: Global, act: &[Value]) -> Result<(), ActFault> {
+    match word(act, 0)? {
+        "deliveries" => stage.makes_deliveries(alloc, act),
+        "waits" => stage.waits(alloc, act),
+        "starved posts" => stage.is_starved_of_posts(alloc, act),
+        "posted" => stage.has_text(alloc, act, &stage.ran.posts, Standing::Whole),
+        "posted once" => stage.has_text(alloc, act, &stage.posted, Standing::Whole),
+        "posted so far" => stage.has_posted_so_far(alloc),
+        "posted again" => stage.has_posted_again(alloc),
+        "kept" => stage.is_kept(alloc),
         _ => finds(stage, alloc, act),
     }
 }
@@ -217,6 +234,7 @@ fn plays(stage: &mut Stage, alloc: Global, act: &[Value]) -> Result<(), ActFault
         "bad door" => played(stage.plan_bad_door(alloc, act)),
         "cuts" => played(stage.plan_cuts(alloc, act)),
         "says" => played(stage.plan_answer(alloc, act)),
+        "receipts" => played(stage.plan_receipts(alloc, act)),
         "peer" => played(stage.make_peer(alloc)),
         "renew" => played(stage.renew(alloc)),
         "life" => played(stage.take_life(alloc, act)),

@@ -5,7 +5,7 @@ use crate::stage::Stage;
 use case_lives::{CaseFault, behind, code, count, entries, front_of, number, part, small, word};
 use lcm_events::Role;
 use serde_json::Value;
-use site_traits::{Arrival, DoorPlan, GrantPlan, JobEnd, JobPlan};
+use site_traits::{Arrival, DoorPlan, GrantPlan, JobEnd, JobPlan, PostPlan};
 use std::alloc::{AllocError, Global};
 use vnfm_base::{Bytes, Line};
 
@@ -75,6 +75,14 @@ fn job_plan(words: &[Value]) -> Result<JobPlan, CaseFault> {
         }
     }
     Ok(plan)
+}
+
+/// What a post is answered: the status at this place of an act, or nothing where `fail` stands there.
+fn receipt(act: &[Value], place: usize) -> Result<PostPlan, CaseFault> {
+    match word(act, place) {
+        Ok("fail") => Ok(PostPlan::Fail),
+        _ => Ok(PostPlan::Status(small(act, place)?)),
+    }
 }
 
 impl Stage {
@@ -209,6 +217,16 @@ impl Stage {
     /// Plans what the orchestrator of the next command does behind what was planned before.
     pub fn plan_grant(&mut self, plan: GrantPlan) -> Result<(), CaseFault> {
         self.outside.says.push(plan)?;
+        Ok(())
+    }
+
+    /// `["receipts", ANSWER..]`: the posts of the next command are answered so in turn: with a status, or, by `fail`,
+    /// not at all. Behind these each is answered with 204.
+    pub fn plan_receipts(&mut self, alloc: Global, act: &[Value]) -> Result<(), CaseFault> {
+        self.outside.receipts = Vec::new(alloc);
+        for place in 1..act.len() {
+            self.outside.receipts.push(receipt(act, place)?)?;
+        }
         Ok(())
     }
 }

@@ -3,7 +3,7 @@
 use crate::objects::{NOW, Ran};
 use case_lives::{Earlier, Names, Plan, Step, Stop, Whole, plain_site};
 use grant_desk::GrantAll;
-use site_traits::{DoorPlan, GrantPlan, MemOrchestrator, MemSite};
+use site_traits::{DoorPlan, GrantPlan, MemOrchestrator, MemSite, PostPlan};
 use std::alloc::{AllocError, Global};
 
 /// Bytes of a piece of a connection where no act says so: each comes in one.
@@ -21,6 +21,8 @@ pub struct Surroundings {
     pub put: Option<u64>,
     /// What an orchestrator answers, in turn.
     pub says: Vec<GrantPlan>,
+    /// What posts are answered, in turn.
+    pub receipts: Vec<PostPlan>,
 }
 
 impl Drop for Surroundings {
@@ -32,12 +34,13 @@ impl Drop for Surroundings {
             now: _,
             put: _,
             says: _,
+            receipts: _,
         } = self;
     }
 }
 
 impl Surroundings {
-    /// Nobody comes, no put fails, and no orchestrator answers.
+    /// Nobody comes, no put fails, no orchestrator answers, and each post is answered with 204.
     fn new(alloc: Global) -> Surroundings {
         Surroundings {
             door: Vec::new(alloc),
@@ -45,6 +48,7 @@ impl Surroundings {
             now: NOW,
             put: None,
             says: Vec::new(alloc),
+            receipts: Vec::new(alloc),
         }
     }
 }
@@ -79,6 +83,8 @@ pub struct Stage {
     pub stop: Stop,
     /// How many stops found an attempt without a job.
     pub lost: usize,
+    /// What short lives posted, each line where it came first.
+    pub posted: Vec<u8>,
 }
 
 impl Drop for Stage {
@@ -99,6 +105,7 @@ impl Drop for Stage {
             whole: _,
             stop: _,
             lost: _,
+            posted: _,
         } = self;
     }
 }
@@ -125,6 +132,7 @@ impl Stage {
             whole,
             stop: Stop::none(),
             lost: 0,
+            posted: Vec::new(alloc),
         })
     }
 
@@ -135,6 +143,7 @@ impl Stage {
         self.outside = Surroundings::new(alloc);
         self.earlier = Earlier::none();
         self.stop = Stop::none();
+        self.posted = Vec::new(alloc);
         Ok(())
     }
 }
