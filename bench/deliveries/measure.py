@@ -1,6 +1,7 @@
 #!/usr/bin/env python3
-"""Measures what deliveries cost a round of `vnfm once`: with 200 subscriptions for which nothing waits, with 10,000 notices that each
-wait for all of them, and where no receiver is reached. Journals lie in memory, and the receiver is this script, on loopback; processor times are of the program alone.
+"""Measures what deliveries cost a round of `vnfm once`: with 200 subscriptions for which nothing waits, with 10,000 and with 200 notices that each wait
+for all of them, and where no receiver is reached. Journals lie in memory, and the receiver is this script, on loopback; processor times are of the
+program alone.
 
 usage: bench/deliveries/measure.py [VNFM]
 """
@@ -109,7 +110,8 @@ def main():
         measuring.run(waits.words(ROUNDS))
         must(receiver.taken == SUBSCRIPTIONS * ROUNDS, f"{receiver.taken} notices were taken")
         must(waits.grown() == SUBSCRIPTIONS * ROUNDS * 31, f"{waits.grown()} bytes were recorded")
-        rows("each is posted one, and takes it", waits, ROUNDS, SUBSCRIPTIONS)
+        rows("each is posted one of 10,000, and takes it", waits, ROUNDS, SUBSCRIPTIONS)
+        rows("each is posted one of 200, and takes it", Rounds(path, written(path, 2 * ROUNDS, receiver.port)), ROUNDS, SUBSCRIPTIONS)
         rows("no receiver is reached", Rounds(path, written(path, NOTICES, unreached())), ROUNDS, SUBSCRIPTIONS)
 
 
