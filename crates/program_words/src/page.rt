@@ -31,15 +31,12 @@ const HELP: &str = "vnfm: a VNF lifecycle manager after ETSI GS NFV-SOL 003 V2.6
 
 Options stand behind the command in any order, each at most once with its value, which doesn't begin with -.
 
-init takes a file that isn't there, is empty or has one byte, begins with a small v,
-    or was left unfinished by an init of the
-same manager. It overwrites what such a file holds. Any other file is taken, and stays as it is: look at what it is,
-    and give
-another PATH, or move it away first.
+init takes a file that isn't there, is empty or has one byte, begins with a small v, or was left unfinished by an
+init of the same manager. It overwrites what such a file holds. Any other file is taken, and stays as it is: look at
+what it is, and give another PATH, or move it away first.
 
-The answer of once goes to standard output. A last line, of once on standard error and
-    else on standard output, says how it
-went:
+The answer of once goes to standard output. A last line, of once on standard error and else on standard output, says
+how it went:
     0  journal made for manager N
     0  onboarded ID: V vdus, A aspects, L levels
     0  done after N rounds      the requests were answered, with a refusal too
@@ -63,9 +60,8 @@ const INIT: &str =
 
     vnfm init --journal journal --manager 7
 
-PATH is made where nothing is. A file that is empty or has one byte, begins with a small v,
-    or was left unfinished by an init
-of the same manager is overwritten. Any other file is taken, and stays as it is.
+PATH is made where nothing is. A file that is empty or has one byte, begins with a small v, or was left unfinished by
+an init of the same manager is overwritten. Any other file is taken, and stays as it is.
 ";
 
 /// What `onboard --help` prints.
@@ -82,19 +78,19 @@ const ONCE: &str =
     "vnfm once --journal PATH [OPTION..]    answer the requests on standard input, and record what they ask for
 
     --role ROLE            who asks on standard input: orchestrator, as where it isn't given, or em, the element manager
-    --rounds N             how many rounds are made, from 0 to 4294967295;
-        1 where it isn't given. In each the connection is served
-                           that comes, if one does; with 0 nothing is read
-    --orchestrator ADDR    where grants are asked for: a literal address and port, or a URL of http with one;
-        nowhere without it
+    --rounds N             how many rounds are made, from 0 to 4294967295; 1 where it isn't given. In each the
+                           connection is served that comes, if one does, each operation under way is moved on by a
+                           step, and each subscription is posted a notice that waits; with 0 nothing is read
+    --orchestrator ADDR    where grants are asked for: a literal address and port, or a URL of http with one; nowhere
+                           without it
     --vim ADDR             where the infrastructure is: a literal address and port; nowhere without it
 
     vnfm once --journal journal <examples/create.http
     vnfm once --journal journal --role em --rounds 2 <examples/create.http
 
 PATH is a journal that init made. Standard input is one connection of HTTP/1.1: its requests are answered one by one,
-    up to its
-end or to the first that asks to close it. A body has at most 1048576 bytes. The answers go to standard output.
+up to its end or to the first that asks to close it. A body has at most 1048576 bytes. The answers go to standard
+output.
 ";
 
 /// What `--version` prints.
