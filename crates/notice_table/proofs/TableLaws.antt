@@ -9,7 +9,7 @@ use Rattle.lcm_events.specs.declared.events.EventKind.TheVariants.{Subscribed}
 use Rattle.lcm_model.specs.Words.{first}
 use Rattle.instance_table.specs.Steps.{Over, Rises}
 use Rattle.instance_table.proofs.LiveLaws.{find-map}
-use Rattle.subscription_filter.specs.declared.filters.NoticeFacts.{NoticeFacts}
+use Rattle.subscription_filter.specs.declared.facts.NoticeFacts.{NoticeFacts}
 use Rattle.notice_table.specs.Queues.{Queue}
 use Rattle.notice_table.specs.Rows.{plain, room, row}
 use Rattle.notice_table.specs.Table.{HasRoomForNotice, HasRoomForQueue, IsKept, Shown}

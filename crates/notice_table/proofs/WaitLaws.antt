@@ -27,7 +27,7 @@ use Rattle.instance_table.proofs.DeliveryLaws.{cursor-other, cursor-posted, neve
 use Rattle.instance_table.proofs.LiveLaws.{ended_made, false_by, fewer, find-filter, find-map, flip, if_there, one_more, without-not}
 use Rattle.instance_table.proofs.Sorted.{Falls, Under, falls-counted, falls-filter, falls-map, find-reverse, rises-reverse}
 use Rattle.subscription_filter.specs.Facts.{facts_in}
-use Rattle.subscription_filter.specs.declared.filters.NoticeFacts.{NoticeFacts}
+use Rattle.subscription_filter.specs.declared.facts.NoticeFacts.{NoticeFacts}
 use Rattle.notice_table.specs.Queues.{Queue, StandsFor, first_waiting, queue, queues}
 use Rattle.notice_table.specs.Steps.{after_post, changed, first_queue, heard, heard_by, posted, without}
 use Rattle.notice_table.specs.Table.{IsNoticeOf, heard_of}

@@ -9,7 +9,7 @@ use Rattle.lcm_events.specs.declared.events.PostOutcome.{PostOutcome}
 use Rattle.lcm_model.specs.Allowed.{IsAllowedWithin, IsLegalWithin}
 use Rattle.lcm_model.specs.Notices.{facts_of}
 use Rattle.subscription_filter.specs.Facts.{facts_in}
-use Rattle.subscription_filter.specs.declared.filters.NoticeFacts.{NoticeFacts}
+use Rattle.subscription_filter.specs.declared.facts.NoticeFacts.{NoticeFacts}
 use Rattle.notice_table.specs.Queues.{Queue, StandsFor, first_waiting}
 use Rattle.notice_table.specs.Steps.{first_queue, heard}
 

@@ -19,7 +19,7 @@ use instance_table::copied_filter;
 use lcm_events::{Filter, PostOutcome};
 use std::alloc::{AllocError, Global};
 use std::collections::VecDeque;
-use subscription_filter::{NoticeFacts, matches};
+use subscription_filter::{AskedNotice, NoticeFacts, SortedFilter, matches};
 
 /// Posts of a notice after which it is given up.
 const TRIES: u8 = 5;
@@ -30,7 +30,7 @@ pub struct QueueRow {
     /// The subscription's number.
     pub number: u64,
     /// What it asks to be told.
-    pub filter: Filter,
+    pub filter: SortedFilter,
     /// How often the first notice that waits was posted and not taken.
     pub tries: u8,
     /// Whether its filter lets the notice at hand through.
@@ -54,7 +54,7 @@ impl QueueRow {
     pub fn new(alloc: Global, number: u64, filter: &Filter) -> Result<Self, AllocError>
         ensures { IfOk result (λ q. row q ≡ first_row number filter.now) }
     {
-        let filter = copied_filter(alloc, filter)?;
+        let filter = SortedFilter::of(alloc, copied_filter(alloc, filter)?)?;
         Ok(QueueRow {
             number,
             filter,
@@ -73,8 +73,7 @@ impl QueueRow {
     }
 
     /// Asks its filter whether it lets the notice through.
-    fn ask(&mut self, notice: &NoticeFacts) -> bool
-        requires { IsIdentNumber notice.now.instance }
+    fn ask(&mut self, notice: &AskedNotice) -> bool
         ensures row { self.new ≡ asked notice.now.manager (facts_in notice.now) self.old }
         ensures answer { result ≡ matches notice.now.manager self.old.filter (facts_in notice.now) }
     {
@@ -142,6 +141,14 @@ pub fn reserve_all(queues: &mut [QueueRow]) -> Result<(), AllocError>
 /// Asks each filter whether it lets the notice through, and tells whether one does.
 pub fn ask_all(queues: &mut [QueueRow], notice: &NoticeFacts) -> bool
     requires { IsIdentNumber notice.now.instance }
+    ensures rows { queues.new ≡ map (asked notice.now.manager (facts_in notice.now)) queues.old }
+    ensures answer { result ≡ list_any (λ q. matches notice.now.manager q.filter (facts_in notice.now)) queues.old }
+{
+    ask_each(queues, &AskedNotice::of(notice))
+}
+
+/// The same, of a notice that is ready to be asked about.
+fn ask_each(queues: &mut [QueueRow], notice: &AskedNotice) -> bool
     ensures rows { queues.new ≡ map (asked notice.now.manager (facts_in notice.now)) queues.old }
     ensures answer { result ≡ list_any (λ q. matches notice.now.manager q.filter (facts_in notice.now)) queues.old }
 {

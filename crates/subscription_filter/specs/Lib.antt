@@ -1,1 +1,4 @@
+pub mod Asked
 pub mod Facts
+pub mod Parts
+pub mod Sorted

@@ -7,7 +7,7 @@ use Rattle.subscription_filter.specs.Facts.{facts_in}
 use Rattle.notice_table.specs.Rows.{asked}
 use Rattle.notice_table.specs.declared.queues.QueueRow.{QueueRow}
 use Rattle.notice_table.proofs.Lists.{untouched}
-use Rattle.notice_table.proofs.queues.ask_all.Goals as goal
+use Rattle.notice_table.proofs.queues.ask_each.Goals as goal
 
 pub loop-queue-preserved : goal.loop-queue-preserved
 loop-queue-preserved c =

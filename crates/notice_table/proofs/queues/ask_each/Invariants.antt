@@ -3,7 +3,7 @@ use Rattle.std.specs.List.{list_any}
 use Rattle.lcm_model.specs.Notices.{matches}
 use Rattle.subscription_filter.specs.Facts.{facts_in}
 use Rattle.notice_table.specs.Rows.{asked}
-use Rattle.notice_table.proofs.queues.ask_all.Given as goal
+use Rattle.notice_table.proofs.queues.ask_each.Given as goal
 
 abbrev pub invariant-loop-queue : goal.invariant-loop-queue
 invariant-loop-queue l = record {
