@@ -1,2 +1,3 @@
 pub mod Members
 pub mod Problem
+pub mod Text

@@ -2,6 +2,7 @@
 #![tactic(auto)]
 
 mod problem;
+mod text;
 
 ghost use Rattle.std.specs.Prelude.{◌≡◌, ◌≤◌, IfOk, IsUtf8, OnOk, Some, false, option_map};
 ghost use Rattle.serde_json.specs.Data.{depth, put as with_member, string};
@@ -13,6 +14,7 @@ ghost use Rattle.json_members.specs.Members.{put_where};
 pub use problem::{problem_value, problem_view};
 use serde_json::{Map, Value, put};
 use std::alloc::{AllocError, Global};
+pub use text::JsonText;
 use vnfm_base::Bytes;
 
 /// A text as a value.

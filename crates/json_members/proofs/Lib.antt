@@ -1,0 +1,2 @@
+pub mod TextLaws
+mod Utf8Lemmas
