@@ -1,4 +1,4 @@
--- The occurrences of a legal history can be shown, and the list of them has no float.
+-- The occurrences of a legal history can be shown, and their views have no float.
 use Rattle.std.proofs.Common.{◌≡◌, ◌+◌, ◌-◌, ◌<◌, ◌≤◌, ◌==◌, ◌∙◌, ℕ, List, [], ◌∷◌, true, false, Option, None, Some, is_some, refl, ap, sym}
 use Rattle.std.proofs.Common.{subst, arith, length, map, find, option_map, slice_get}
 use Rattle.std.proofs.lemmas.List.{length-map, length-reverse}
@@ -130,19 +130,7 @@ occurrences_shown width m H rs os few legal stands_instances stands =
       each = λ n r e. found_shown width m H rs n r few legal stands_instances e;
     }
 
-row_plain : (manager n : ℕ) (r : OccRow) (o : Option Vnfd) → has_float (option_map_or (occurrence_shown manager n r) o null) ≡ false
+-- the view of an occurrence has no float, with its descriptor or without
+pub row_plain : (manager n : ℕ) (r : OccRow) (o : Option Vnfd) → has_float (option_map_or (occurrence_shown manager n r) o null) ≡ false
 row_plain manager n r None = refl
 row_plain manager n r (Some d) = occurrence_plain manager n r d (moment_text r.asked) (moment_text r.entered)
-
-found_plain : (manager : ℕ) (rs : Rows) (os : List OccRow) (places : List ℕ)
-    → items_have_float (items_of (filter_map (occurrence_at manager rs os) places)) ≡ false
-found_plain manager rs os [] = refl
-found_plain manager rs os (place ∷ places) = of (slice_get os place) refl (found_plain manager rs os places) where
-  of : (o : Option OccRow) → slice_get os place ≡ o → items_have_float (items_of (filter_map (occurrence_at manager rs os) places)) ≡ false
-      → items_have_float (items_of (filter_map (occurrence_at manager rs os) (place ∷ places))) ≡ false
-  of None e rest = rw e rest
-  of (Some r) e rest = rw e (or_false _ _ (row_plain manager (place + 1) r (vnfd_named rs r.vnfd)) rest)
-
--- the list of occurrences has no float
-pub list_plain : (manager : ℕ) (rs : Rows) (os : List OccRow) → has_float (occurrences_value manager rs os) ≡ false
-list_plain manager rs os = found_plain manager rs os _

@@ -116,8 +116,3 @@ filter_plain f =
 pub subscription_plain : (manager n : ℕ) (callback : List ℕ) (f : Filter) → has_float (subscription_value manager n callback f) ≡ false
 subscription_plain manager n callback f =
     where_plain (codes "filter") (object_where (filter_members f)) _ (object_plain (filter_members f) (filter_plain f)) refl
-
-pub subscriptions_plain : (manager : ℕ) (role : Role) (rows : List SubscriptionRow)
-    → has_float (subscriptions_value manager role rows) ≡ false
-subscriptions_plain manager role rows = array_plain (λ row. subscription_value manager row.number row.callback row.filter)
-    (λ row. subscription_plain manager row.number row.callback row.filter) (filter (λ row. same_role row.role role) rows)

@@ -95,11 +95,8 @@ instance_plain manager n row d =
     (where_plain (codes "vnfInstanceName") (option_map string row.name) _ (text_plain row.name)
     refl)))
 
--- nor has that of all instances
-row_plain : (manager : ℕ) (row : InstanceRow) (o : Option Vnfd)
+-- nor has it with the descriptor that its row names, or without
+pub row_plain : (manager : ℕ) (row : InstanceRow) (o : Option Vnfd)
     → has_float (option_map_or (instance_value manager row.number row) o null) ≡ false
 row_plain manager row None = refl
 row_plain manager row (Some d) = instance_plain manager row.number row d
-
-pub instances_plain : (manager : ℕ) (rs : Rows) → has_float (instances_value manager rs) ≡ false
-instances_plain manager rs = array_plain (row_value manager rs) (λ row. row_plain manager row (vnfd_named rs row.vnfd)) rs.instances

@@ -1,18 +1,17 @@
 //! The view of all live instances.
 ghost use Rattle.std.specs.Prelude.{◌≡◌, IfOk, true};
-ghost use Rattle.serde_json.specs.View.{view};
-ghost use Rattle.json_views.specs.Instances.{CanBeShown, IsShowable, instances_text, instances_value, row_value};
+ghost use Rattle.json_views.specs.Instances.{CanBeShown, IsShowable, instances_text, row_value};
 
 use crate::instance::instance_value;
-use crate::members::{Shows, array_of};
+use crate::members::{Shows, array_text};
 use instance_table::{InstanceRow, InstanceTable};
-use json_members::written;
 use serde_json::Value;
 use std::alloc::{AllocError, Global};
 use vnfm_base::Bytes;
 
 /// The views of all live instances, in the order of their numbers, each with the descriptor that its row names. The
-/// time is linear in what is told, but for the search of each row's descriptor among at most 256.
+/// time is linear in what is told, but for the search of each row's descriptor among at most 256. Of the views there is
+/// one at a time, beside the text.
 ///
 /// Condition: each row has a number of an identifier and a descriptor that was onboarded, and what stands of it is in
 /// order of definition, as `legal_rows_can_be_shown` says of the rows of each legal history.
@@ -26,15 +25,7 @@ pub fn instances_view(
     requires { CanBeShown table.now.rows }
     ensures { IfOk result (λ body. body ≡ instances_text manager table.now.rows) }
 {
-    let value = instances_value(alloc, manager, table)?;
-    written(alloc, &value)
-}
-
-fn instances_value(alloc: Global, manager: u32, table: &InstanceTable) -> Result<Value, AllocError>
-    requires { CanBeShown table.now.rows }
-    ensures { IfOk result (λ value. view value ≡ instances_value manager table.now.rows) }
-{
-    array_of(alloc, table.instances(), &Instances { manager, table })
+    array_text(alloc, table.instances(), &Instances { manager, table })
 }
 
 /// The instances of a table, each with the descriptor that its row names.

@@ -1,14 +1,17 @@
 //! Members and lists of a view.
-ghost use Rattle.std.specs.Prelude.{◌≡◌, All, IfOk, OnOk, filter, map, option_map};
+ghost use Rattle.std.specs.Prelude.{◌≡◌, All, IfOk, OnOk, false, filter, map, option_map};
 ghost use Rattle.serde_json.specs.View.{items_of, members_view, view};
 ghost use Rattle.serde_json.specs.Data.{array, put as with_member, string};
-ghost use Rattle.json_views.specs.Views.{array_of};
+ghost use Rattle.serde_json.specs.Written.{compact_text, has_float};
 ghost use Rattle.json_members.specs.Members.{put_where};
+ghost use Rattle.json_members.specs.Text.{with_value};
+ghost use Rattle.json_views.specs.Views.{array_of};
 
+use json_members::JsonText;
 pub use json_members::{put_text, put_where, text_value};
 use serde_json::{Map, Value, put};
 use std::alloc::{AllocError, Global};
-use vnfm_base::{Line, Name};
+use vnfm_base::{Bytes, Line, Name};
 
 /// Puts a member whose value is a name that may be absent.
 pub fn put_name_where(
@@ -68,12 +71,48 @@ pub trait Shows<T> {
         ensures { IfOk result (λ value. view value ≡ shown self.now entry.now) };
 }
 
-/// The array of what the entries that are shown are shown as, in order.
-pub fn array_of<T, S: Shows<T>>(
+/// The text of the array of what the entries that are shown are shown as, in order. The value of each is let go as soon
+/// as it is written, so that of the list there is its text alone.
+pub fn array_text<T, S: Shows<T>>(
     alloc: Global,
     entries: &[T],
     shows: &S,
-) -> Result<Value, AllocError>
+) -> Result<Bytes, AllocError>
+    requires ready { S.IsReady shows.now }
+    requires each { All (S.MayShow shows.now) entries.now }
+    requires plain { (x : T) → has_float (S.shown shows.now x) ≡ false }
+    ensures { IfOk result (λ body. body
+        ≡ compact_text (array_of (S.shown shows.now) (filter (S.has shows.now) entries.now))) }
+{
+    let mut text = JsonText::new(alloc);
+    write_array(&mut text, alloc, entries, shows)?;
+    Ok(text.into_bytes())
+}
+
+fn write_array<T, S: Shows<T>>(
+    text: &mut JsonText,
+    alloc: Global,
+    entries: &[T],
+    shows: &S,
+) -> Result<(), AllocError>
+    requires ready { S.IsReady shows.now }
+    requires each { All (S.MayShow shows.now) entries.now }
+    requires plain { (x : T) → has_float (S.shown shows.now x) ≡ false }
+    ensures { OnOk result (text.new
+        ≡ with_value (array_of (S.shown shows.now) (filter (S.has shows.now) entries.now)) text.old) }
+{
+    text.begin_array()?;
+    for entry in entries {
+        if shows.has(entry) {
+            let value = shows.show(alloc, entry)?;
+            text.value(alloc, &value)?;
+        }
+    }
+    text.end_array()
+}
+
+/// The array of what the entries that are shown are shown as, in order.
+fn array_of<T, S: Shows<T>>(alloc: Global, entries: &[T], shows: &S) -> Result<Value, AllocError>
     requires ready { S.IsReady shows.now }
     requires each { All (S.MayShow shows.now) entries.now }
     ensures { IfOk result (λ value. view value ≡ array_of (S.shown shows.now) (filter (S.has shows.now) entries.now)) }

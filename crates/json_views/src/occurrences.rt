@@ -1,12 +1,13 @@
 //! The view of the occurrences, of the greatest numbers.
-ghost use Rattle.std.specs.Prelude.{◌≡◌, ◌<◌, IfOk, length, map, option_copied, slice_get};
+ghost use Rattle.std.specs.Prelude.{◌≡◌, ◌<◌, IfOk, OnOk, length, option_copied, slice_get};
 ghost use Rattle.serde_json.specs.View.{view};
+ghost use Rattle.json_members.specs.Text.{with_value};
 ghost use Rattle.json_views.specs.Occurrences.{AreOfLegal, CanOccurrencesBeShown, IsOccurrenceShowable, occurrence_row};
-ghost use Rattle.json_views.specs.Occurrences.{occurrences_listed, occurrences_text, occurrences_value};
+ghost use Rattle.json_views.specs.Occurrences.{occurrences_text, occurrences_value};
 
 use crate::occurrence::occurrence_shown;
 use instance_table::InstanceTable;
-use json_members::written;
+use json_members::JsonText;
 use occ_table::{OccRow, OccTable};
 use serde_json::Value;
 use std::alloc::{AllocError, Global};
@@ -17,7 +18,7 @@ pub const MAX_LISTED: u64 = 10_000;
 
 /// The views of the occurrences of the 10,000 greatest numbers, in the order of their numbers, each with the descriptor
 /// that its row names. The time is linear in what is told, but for the search of each row's descriptor among at most
-/// 256.
+/// 256. Of the views there is one at a time, beside the text.
 ///
 /// Condition: the tables are those of a legal history, each number is one of an identifier, and each descriptor was
 /// onboarded, as
@@ -33,42 +34,32 @@ pub fn occurrences_view(
     requires { CanOccurrencesBeShown instances.now.rows occurrences.now.rows }
     ensures { IfOk result (λ body. body ≡ occurrences_text manager instances.now.rows occurrences.now.rows) }
 {
-    let value = occurrences_value(alloc, manager, instances, occurrences)?;
-    written(alloc, &value)
+    let mut text = JsonText::new(alloc);
+    write_occurrences(&mut text, alloc, manager, instances, occurrences)?;
+    Ok(text.into_bytes())
 }
 
-fn occurrences_value(
+/// Writes the occurrences that are listed, one after another.
+fn write_occurrences(
+    text: &mut JsonText,
     alloc: Global,
     manager: u32,
     instances: &InstanceTable,
     occurrences: &OccTable,
-) -> Result<Value, AllocError>
+) -> Result<(), AllocError>
     requires { CanOccurrencesBeShown instances.now.rows occurrences.now.rows }
-    ensures { IfOk result (λ value. view value ≡ occurrences_value manager instances.now.rows occurrences.now.rows) }
-{
-    Ok(Value::Array(occurrences_listed(alloc, manager, instances, occurrences)?))
-}
-
-/// The values of the occurrences that are listed.
-fn occurrences_listed(
-    alloc: Global,
-    manager: u32,
-    instances: &InstanceTable,
-    occurrences: &OccTable,
-) -> Result<Vec<Value>, AllocError>
-    requires { CanOccurrencesBeShown instances.now.rows occurrences.now.rows }
-    ensures { IfOk result (λ values. map view values.items
-        ≡ occurrences_listed manager instances.now.rows occurrences.now.rows) }
+    ensures { OnOk result (text.new
+        ≡ with_value (occurrences_value manager instances.now.rows occurrences.now.rows) text.old) }
 {
     let made = made_in(occurrences);
-    let mut values = Vec::new(alloc);
+    text.begin_array()?;
     for place in made.saturating_sub(MAX_LISTED)..made {
         match row_at(occurrences, place) {
-            Some(row) => values.push(entry(alloc, manager, instances, place + 1, row)?)?,
+            Some(row) => write_entry(text, alloc, manager, instances, place + 1, row)?,
             None => {}
         }
     }
-    Ok(values)
+    text.end_array()
 }
 
 /// How many rows there are.
@@ -87,6 +78,22 @@ fn row_at(occurrences: &OccTable, place: u64) -> Option<&OccRow>
     ensures { option_copied result ≡ slice_get occurrences.now.rows place }
 {
     occurrences.occurrence(place + 1)
+}
+
+/// Writes the view of occurrence `n`, with the descriptor that its row names. Once it is written its value is let go.
+fn write_entry(
+    text: &mut JsonText,
+    alloc: Global,
+    manager: u32,
+    instances: &InstanceTable,
+    n: u64,
+    row: &OccRow,
+) -> Result<(), AllocError>
+    requires { IsOccurrenceShowable instances.now.rows n row.now }
+    ensures { OnOk result (text.new ≡ with_value (occurrence_row manager instances.now.rows n row.now) text.old) }
+{
+    let value = entry(alloc, manager, instances, n, row)?;
+    text.value(alloc, &value)
 }
 
 /// The view of occurrence `n`, with the descriptor that its row names.

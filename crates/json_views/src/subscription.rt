@@ -15,7 +15,7 @@ ghost use Rattle.vnfm_base.specs.Text.{IsLine};
 
 use crate::instance::identifier;
 use crate::links::put_link;
-use crate::members::{Shows, array_of, put_array, put_text, put_where, text_value};
+use crate::members::{Shows, array_text, put_array, put_text, put_where, text_value};
 use crate::words::{notice_word, operation_type_word, state_word};
 use instance_table::SubscriptionRow;
 use json_members::written;
@@ -71,7 +71,7 @@ pub fn subscription_view(
     written(alloc, &value)
 }
 
-/// The views of the subscriptions of a role among these, in their order.
+/// The views of the subscriptions of a role among these, in their order. There is one at a time, beside the text.
 ///
 /// Condition: the number of each is from 1 to 2^62 - 1.
 /// Source: SOL 003 5.4.18 (Subscriptions); that a role sees its own alone is an own rule.
@@ -85,8 +85,7 @@ pub fn subscriptions_view(
     requires { All (λ row. IsIdentNumber row.number) rows.now }
     ensures { IfOk result (λ body. body ≡ subscriptions_text manager role rows.now) }
 {
-    let value = array_of(alloc, rows, &OfRole { manager, role })?;
-    written(alloc, &value)
+    array_text(alloc, rows, &OfRole { manager, role })
 }
 
 fn subscription_value(

@@ -1,7 +1,0 @@
--- Every row is shown.
-use Rattle.std.proofs.Common.{rules}
-use Rattle.json_views.proofs.ListLemmas.{filter-all}
-use Rattle.json_views.proofs.instances.instances_value.Goals as goal
-
-pub returns : goal.returns
-returns c = search (rules, filter-all)
