@@ -1,5 +1,5 @@
 -- What is read of a grant.
-use Rattle.std.proofs.Common.{◌≡◌, ◌++◌, ◌∙◌, ◌<◌, ◌+◌, List, [], ◌∷◌, ℕ, Some, None, Option, refl, ap, ◌↔◌, IsSome, sym, map, drop, length}
+use Rattle.std.proofs.Common.{◌≡◌, ◌++◌, List, [], ◌∷◌, ℕ, Some, None, Option, refl, ap, ◌↔◌, IsSome, sym}
 use Rattle.std.proofs.Common.{append_assoc, Bool, true, false}
 use Rattle.std.specs.Option.{IfSome}
 use Rattle.std.specs.Prelude.{IsUtf8, option_map}

@@ -4,3 +4,4 @@ mod GrantLemmas
 mod PlacingLaws
 mod RequestLaws
 mod GrantAllLaws
+mod ReadLaws

@@ -1,18 +1,18 @@
 -- Laws of the places that rows give to changes.
-use Rattle.std.proofs.Common.{◌≡◌, ◌≤◌, ◌<◌, ◌+◌, ◌++◌, ◌∙◌, ◌&&◌, ℕ, List, [], ◌∷◌, Bool, true, false, Option, None, Some, is_some, not}
-use Rattle.std.proofs.Common.{refl, ap, sym, subst, length, map, take, get_or, filter_map, arith, suc, zero, replicate, add-zero, ◌==◌}
+use Rattle.std.proofs.Common.{◌≡◌, ◌<◌, ◌+◌, ◌++◌, ◌∙◌, ◌&&◌, ℕ, List, [], ◌∷◌, Bool, true, false, Option, None, Some, is_some, not}
+use Rattle.std.proofs.Common.{refl, ap, sym, subst, length, take, get_or, filter_map, arith, suc, zero, replicate, add-zero, ◌==◌}
 use Rattle.std.proofs.Common.{eqb-true, eq-eqb, ◌^◌}
 use Rattle.std.specs.List.{cons_option, enumerate_from, find}
 use Rattle.std.specs.Option.{option_or}
 use Rattle.std.specs.Prelude.{if◌then◌else◌, option_map}
 use Rattle.std.proofs.lemmas.List.{get_or_default, length-replicate, take_more}
 use Rattle.std.proofs.lemmas.List.Folds.{find-append}
-use Rattle.lcm_events.specs.Same.{same_name, same_verb}
+use Rattle.lcm_events.specs.Same.{same_name}
 use Rattle.lcm_events.specs.declared.changes.Change.{Change}
 use Rattle.lcm_events.specs.declared.changes.Verb.{Verb}
 use Rattle.lcm_events.specs.declared.changes.Verb.TheVariants.{Create, Remove, Start, Stop}
 use Rattle.lcm_events.specs.declared.places.Place.{Place}
-use Rattle.lcm_model.specs.Grants.{change_id, covers, granted_places, granted_spots, is_update, place_in_rows, place_of_row, row_places}
+use Rattle.lcm_model.specs.Grants.{change_id, covers, granted_places, granted_spots, place_in_rows, place_of_row, row_places}
 use Rattle.lcm_model.specs.Grants.{rows_for}
 use Rattle.lcm_events.specs.declared.events.Event.{Event}
 use Rattle.lcm_model.specs.Allowed.{IsAsking, MayGrant}

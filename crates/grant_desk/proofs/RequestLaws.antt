@@ -1,12 +1,12 @@
--- A grant request has no float.
-use Rattle.std.proofs.Common.{◌≡◌, ◌≤◌, arith, suc, ℕ, List, [], ◌∷◌, Bool, true, false, ◌||◌, Option, Some, None, codes, map, refl}
+-- An entry of a grant request has no float, and a request nests no deeper than is read.
+use Rattle.std.proofs.Common.{◌≡◌, ◌≤◌, arith, suc, ℕ, List, [], ◌∷◌, Bool, false, ◌||◌, Option, Some, None, codes, map, refl}
 use Rattle.std.specs.List.{enumerate_from}
 use Rattle.std.specs.Prelude.{filter, option_map}
 use Rattle.std.proofs.Math.Nat.{max-le}
 use Rattle.serde_json.specs.Data.{Data, Members, depth, items_depth, member, members_depth, no_members, string}
 use Rattle.serde_json.specs.Read.{max_depth}
 use Rattle.serde_json.specs.View.{items_of}
-use Rattle.serde_json.specs.Written.{has_float, items_have_float, members_have_float}
+use Rattle.serde_json.specs.Written.{has_float, members_have_float}
 use Rattle.change_planner.specs.Acts.{template_name}
 use Rattle.held_items.specs.Items.{item_of}
 use Rattle.lcm_events.specs.declared.asks.Ask.{Ask}
@@ -29,12 +29,6 @@ use Rattle.grant_desk.specs.declared.requests.GrantAsker.{GrantAsker}
 -- neither of two has a float
 or_false : (a b : Bool) → a ≡ false → b ≡ false → (a || b) ≡ false
 or_false a b ha hb = rw (ha, hb) refl
-
--- an array of values without a float has none
-array_plain : {A : Type 0} (shown : A → Data) → ((x : A) → has_float (shown x) ≡ false) → (xs : List A)
-    → items_have_float (items_of (map shown xs)) ≡ false
-array_plain shown plain [] = refl
-array_plain shown plain (x ∷ xs) = or_false _ _ (plain x) (array_plain shown plain xs)
 
 -- a member that may be absent has no float where its value has none
 abbrev IsPlain : Option Data → Type 0
@@ -62,19 +56,10 @@ vdu_plain d Storage x = refl
 vdu_plain d Compute x = refl
 vdu_plain d Port x = refl
 
-entry_plain : (d : Vnfd) (h : Holding) (x : ℕ × Change) → has_float (entry d h x) ≡ false
+pub entry_plain : (d : Vnfd) (h : Holding) (x : ℕ × Change) → has_float (entry d h x) ≡ false
 entry_plain d h x =
     where_plain (codes "resource") (resource_for x.1.verb (item_of x.1.def h.items)) _ (resource_plain x.1.verb (item_of x.1.def h.items))
     (where_plain (codes "vduId") (vdu_for d x.1.def.kind x.1.def) _ (vdu_plain d x.1.def.kind x.1.def) refl)
-
-entries_plain : (d : Vnfd) (h : Holding) (p : Part) (xs : List Change) → has_float (entries d h p xs) ≡ false
-unfolding entries
-entries_plain d h p xs = array_plain (entry d h) (entry_plain d h) (filter (λ x. asks p x.1.verb) (enumerate_from 0 xs))
-
-pub request_plain : (d : Vnfd) (h : Holding) (who : GrantAsker) (ask : Ask) (xs : List Change) → has_float (request d h who ask xs) ≡ false
-request_plain d h who ask xs =
-    or_false _ _ (entries_plain d h part.Add xs) (or_false _ _ (entries_plain d h part.Remove xs)
-    (or_false _ _ (entries_plain d h part.Update xs) refl))
 
 -- the values of an array nest no deeper than each of them
 array_depth : {A : Type 0} (shown : A → Data) (k : ℕ) → ((x : A) → depth (shown x) ≤ k) → (xs : List A)

@@ -1,6 +1,6 @@
 -- Laws of the places seen.
-use Rattle.std.proofs.Common.{◌≡◌, ◌≤◌, ◌<◌, ◌+◌, ◌++◌, ◌∙◌, ℕ, List, [], ◌∷◌, Bool, true, false, cond, refl, ap, sym, subst, length, map}
-use Rattle.std.proofs.Common.{take, drop, append_assoc, append-nil, length-append, arith, Option, Some, None}
+use Rattle.std.proofs.Common.{◌≡◌, ◌≤◌, ◌<◌, ◌++◌, ◌∙◌, ℕ, List, [], ◌∷◌, true, false, refl, ap, sym, subst, length, map}
+use Rattle.std.proofs.Common.{take, append_assoc, append-nil, length-append, arith, Option, Some, None}
 use Rattle.std.specs.List.{list_any}
 use Rattle.lcm_events.specs.declared.places.Place.{Place}
 use Rattle.lcm_model.specs.Grants.{places_after, same_place}

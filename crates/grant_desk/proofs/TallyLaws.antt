@@ -1,21 +1,19 @@
 -- Laws of counts, and of what is named once.
-use Rattle.std.proofs.Common.{◌≡◌, ◌≤◌, ◌<◌, ◌+◌, ◌-◌, ◌^◌, ◌++◌, ◌∙◌, ◌&&◌, ◌||◌, ◌==◌, ℕ, List, [], ◌∷◌, Bool, true, false, cond, not}
-use Rattle.std.proofs.Common.{refl, ap, sym, subst, length, map, filter, take, drop, get_or, arith, suc, zero, min, length-append, eqb}
+use Rattle.std.proofs.Common.{◌≡◌, ◌≤◌, ◌<◌, ◌+◌, ◌^◌, ◌++◌, ◌∙◌, ◌&&◌, ◌||◌, ◌==◌, ℕ, List, [], ◌∷◌, Bool, true, false, cond, not}
+use Rattle.std.proofs.Common.{refl, ap, sym, subst, length, map, filter, take, get_or, arith, suc, min, length-append, eqb}
 use Rattle.std.proofs.Common.{eqb-true, eq-eqb, false-eqb, ne_eqb, add-zero, ◌≢◌}
 use Rattle.std.specs.List.{enumerate_from, list_all}
-use Rattle.std.specs.Prelude.{count_by, if◌then◌else◌, slice_index, zip}
+use Rattle.std.specs.Prelude.{count_by, if◌then◌else◌}
 use Rattle.std.proofs.lemmas.List.{take_more}
 use Rattle.std.proofs.lemmas.List.Sums.{sum_by-cons}
 use Rattle.std.proofs.lemmas.List.Elements.{filter-append}
-use Rattle.std.proofs.lemmas.List.Folds.{list_all-append}
 use Rattle.lcm_events.specs.Same.{same_name}
 use Rattle.lcm_events.specs.declared.changes.Change.{Change}
-use Rattle.lcm_events.specs.declared.changes.Verb.{Verb}
 use Rattle.lcm_events.specs.declared.places.Place.{Place}
 use Rattle.lcm_model.specs.Grants.{change_id, ids_of}
 use Rattle.grant_desk.specs.Parts.{asks}
 use Rattle.grant_desk.specs.declared.parts.Part.{Part}
-use Rattle.grant_desk.specs.Tallies.{AreTallied, are_counted_once, are_named_once, counted, is_counted_once, is_named_once, times}
+use Rattle.grant_desk.specs.Tallies.{AreTallied, are_counted_once, are_named_once, counted, is_named_once, times}
 
 -- no row names a change
 pub none_tallied : (first : ℕ) (counts : List ℕ) → ((k : ℕ) → k < length counts → get_or counts k 0 ≡ 0) → AreTallied [] first counts

@@ -1,6 +1,6 @@
 -- What an answer to a grant request or to a poll says. A grant is hostile input: what has another form than this isn't
 -- read (SOL 003 9.4.2, Grants; 9.4.3, Individual grant; 9.5.2.3, Grant; 9.5.3.3, GrantInfo; RFC 8259).
-use Rattle.std.specs.Prelude.{Bool, true, false, ℕ, List, [], ◌∷◌, length, nat_le, codes, if◌then◌else◌, ◌==◌, ◌||◌}
+use Rattle.std.specs.Prelude.{Bool, true, ℕ, List, [], ◌∷◌, length, nat_le, codes, if◌then◌else◌, ◌==◌, ◌||◌}
 use Rattle.std.specs.Prelude.{Option, Some, None, option_and_then, option_map}
 use Rattle.std.specs.Str.{is_utf8}
 use Rattle.serde_json.specs.Data.{Data, Items, no_items, item}

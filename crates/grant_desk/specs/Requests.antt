@@ -2,7 +2,7 @@
 -- Grants; 9.5.2.2, GrantRequest; 9.5.3.2, ResourceDefinition). Members stand in byte order of their names.
 use Rattle.std.specs.List.{enumerate_from}
 use Rattle.std.specs.Option.{option_map_or}
-use Rattle.std.specs.Prelude.{Bool, List, [], ℕ, Option, None, Some, ◌++◌, codes, false, filter, map, option_map}
+use Rattle.std.specs.Prelude.{List, [], ℕ, Option, None, Some, ◌++◌, codes, false, filter, map, option_map}
 use Rattle.std.specs.Prelude.{slice_get}
 use Rattle.serde_json.specs.Data.{Data, Members, array, boolean, member, no_members, object, string}
 use Rattle.serde_json.specs.View.{items_of}

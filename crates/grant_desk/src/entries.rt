@@ -1,57 +1,59 @@
 //! The entries of a grant request: what is asked for, change by change.
-ghost use Rattle.std.specs.Prelude.{◌≡◌, [], IfOk, OnOk, filter, map, option_copied, option_map, slice_get};
-ghost use Rattle.std.specs.Prelude.{string_bytes, unwrap_or};
-ghost use Rattle.std.specs.List.{enumerate_from};
+ghost use Rattle.std.specs.Prelude.{◌≡◌, [], IfOk, OnOk, option_copied, option_map, slice_get, string_bytes};
+ghost use Rattle.std.specs.Prelude.{unwrap_or};
 ghost use Rattle.std.specs.Option.{option_map_or};
 ghost use Rattle.serde_json.specs.View.{members_view, view};
 ghost use Rattle.change_planner.specs.Acts.{template_name};
 ghost use Rattle.held_items.specs.Items.{AreInOrder, item_of};
 ghost use Rattle.lcm_model.specs.Grants.{change_id};
 ghost use Rattle.grant_desk.specs.Made.{needed_members};
-ghost use Rattle.grant_desk.specs.Parts.{asks};
+ghost use Rattle.json_members.specs.Text.{with_value};
 ghost use Rattle.grant_desk.specs.Requests.{entries, entry, handle, resource_for, type_word, vdu_for};
 
 use crate::parts::{Part, asks};
 use held_items::find;
 use itoa::Buffer;
-use json_members::{put_text, put_where, text_value};
+use json_members::{JsonText, put_text, put_where, text_value};
 use lcm_events::{Change, Def, DefKind, Held, Holding, Verb, Vnfd};
 use serde_json::{Map, Value, json};
 use std::alloc::{AllocError, Global};
 
-/// What is asked for in a part, as a value.
+/// Writes what is asked for in a part, change by change. The value of each is let go as soon as it is written.
 #[tactic(auto, unfolding(crate::specs::Requests::entries))]
-pub fn entries_value(
+pub fn write_entries(
+    text: &mut JsonText,
     alloc: Global,
     vnfd: &Vnfd,
     holding: &Holding,
     part: Part,
     changes: &[Change],
-) -> Result<Value, AllocError>
+) -> Result<(), AllocError>
     requires { AreInOrder holding.now.items }
-    ensures { IfOk result (λ value. view value ≡ entries vnfd.now holding.now part changes.now) }
+    ensures { OnOk result (text.new ≡ with_value (entries vnfd.now holding.now part changes.now) text.old) }
 {
-    Ok(Value::Array(entry_values(alloc, vnfd, holding, part, changes)?))
-}
-
-fn entry_values(
-    alloc: Global,
-    vnfd: &Vnfd,
-    holding: &Holding,
-    part: Part,
-    changes: &[Change],
-) -> Result<Vec<Value>, AllocError>
-    requires { AreInOrder holding.now.items }
-    ensures { IfOk result (λ values. map view values.items
-        ≡ map (entry vnfd.now holding.now) (filter (λ x. asks part x.1.verb) (enumerate_from 0 changes.now))) }
-{
-    let mut values = Vec::new(alloc);
+    text.begin_array()?;
     for (k, change) in changes.iter().enumerate() {
         if asks(part, change.verb) {
-            values.push(entry_value(alloc, vnfd, holding, k, change)?)?;
+            write_entry(text, alloc, vnfd, holding, k, change)?;
         }
     }
-    Ok(values)
+    text.end_array()
+}
+
+/// Writes a change with its number.
+fn write_entry(
+    text: &mut JsonText,
+    alloc: Global,
+    vnfd: &Vnfd,
+    holding: &Holding,
+    k: usize,
+    change: &Change,
+) -> Result<(), AllocError>
+    requires { AreInOrder holding.now.items }
+    ensures { OnOk result (text.new ≡ with_value (entry vnfd.now holding.now (k, change.now)) text.old) }
+{
+    let value = entry_value(alloc, vnfd, holding, k, change)?;
+    text.value(alloc, &value)
 }
 
 /// A change with its number, as a value.

@@ -1,19 +1,18 @@
 //! The body of a grant request.
-ghost use Rattle.std.specs.Prelude.{◌≡◌, IfOk, IsUtf8, Some, string_bytes};
+ghost use Rattle.std.specs.Prelude.{◌≡◌, IfOk, IsUtf8, OnOk, Some, string_bytes};
 ghost use Rattle.serde_json.specs.Read.{read};
-ghost use Rattle.serde_json.specs.View.{members_view, view};
+ghost use Rattle.serde_json.specs.View.{view};
 ghost use Rattle.held_items.specs.Items.{AreInOrder};
 ghost use Rattle.vnfm_base.specs.Ident.{IsIdentNumber};
-ghost use Rattle.lcm_model.specs.Operations.{kind_of};
-ghost use Rattle.grant_desk.specs.Made.{text_members};
+ghost use Rattle.json_members.specs.Text.{with_value};
 ghost use Rattle.grant_desk.specs.Requests.{instance_id, links, occurrence_id, operation_word, request, request_text};
 
-use crate::entries::entries_value;
+use crate::entries::write_entries;
 use crate::parts::Part;
-use json_members::{put_text, written};
+use json_members::JsonText;
 use lcm_events::{Ask, Change, Holding, OpKind, Vnfd};
 use lcm_model::op_kind;
-use serde_json::{Map, Value, json, put};
+use serde_json::{Value, json};
 use std::alloc::{AllocError, Global};
 use uuid::Uuid;
 use vnfm_base::{Bytes, Kind, ident};
@@ -57,63 +56,45 @@ pub fn grant_body(
     ensures reads { IfOk result (λ body. IsUtf8 body × (read body
         ≡ Some (request vnfd.now holding.now who.now ask.now changes.now))) }
 {
-    let value = request_value(alloc, vnfd, holding, who, ask, changes)?;
-    written(alloc, &value)
+    let mut text = JsonText::new(alloc);
+    write_request(&mut text, alloc, vnfd, holding, who, ask, changes)?;
+    Ok(text.into_bytes())
 }
 
-fn request_value(
+/// Writes the request member by member, in byte order of their names.
+fn write_request(
+    text: &mut JsonText,
     alloc: Global,
     vnfd: &Vnfd,
     holding: &Holding,
     who: &GrantAsker,
     ask: &Ask,
     changes: &[Change],
-) -> Result<Value, AllocError>
+) -> Result<(), AllocError>
     requires order { AreInOrder holding.now.items }
     requires instance { IsIdentNumber who.now.instance }
     requires occ { IsIdentNumber who.now.occ }
-    ensures { IfOk result (λ value. view value ≡ request vnfd.now holding.now who.now ask.now changes.now) }
+    ensures { OnOk result (text.new
+        ≡ with_value (request vnfd.now holding.now who.now ask.now changes.now) text.old) }
 {
     let instance = instance_id(alloc, who.manager, who.instance)?;
     let occ = occurrence_id(alloc, who.manager, who.occ)?;
-    let mut members = text_members(alloc, vnfd, instance.as_str(), occ.as_str(), ask)?;
     let links = links_value(alloc, instance.as_str(), occ.as_str())?;
-    put(&mut members, alloc, "_links", links)?;
-    let add = entries_value(alloc, vnfd, holding, Part::Add, changes)?;
-    put(&mut members, alloc, "addResources", add)?;
-    let remove = entries_value(alloc, vnfd, holding, Part::Remove, changes)?;
-    put(&mut members, alloc, "removeResources", remove)?;
-    let update = entries_value(alloc, vnfd, holding, Part::Update, changes)?;
-    put(&mut members, alloc, "updateResources", update)?;
-    Ok(Value::Object(members))
-}
-
-/// The members that are texts, and that which says that nobody asked for the operation automatically.
-fn text_members(
-    alloc: Global,
-    vnfd: &Vnfd,
-    instance: &str,
-    occ: &str,
-    ask: &Ask,
-) -> Result<Map<String, Value>, AllocError>
-    ensures { IfOk result (λ members. members_view members.entries
-        ≡ text_members vnfd.now.flavour_id (operation_word (kind_of ask.now)) instance.now occ.now
-        vnfd.now.descriptor_id) }
-{
-    let mut members = Map::new(alloc);
-    put_text(&mut members, alloc, "flavourId", vnfd.flavour_id.as_str())?;
-    put(
-        &mut members,
-        alloc,
-        "isAutomaticInvocation",
-        Value::Bool(false),
-    )?;
-    let operation = operation_word(op_kind(ask));
-    put_text(&mut members, alloc, "operation", operation)?;
-    put_text(&mut members, alloc, "vnfInstanceId", instance)?;
-    put_text(&mut members, alloc, "vnfLcmOpOccId", occ)?;
-    put_text(&mut members, alloc, "vnfdId", vnfd.descriptor_id.as_str())?;
-    Ok(members)
+    text.begin_object()?;
+    text.member(alloc, "_links", &links)?;
+    text.name(alloc, "addResources")?;
+    write_entries(text, alloc, vnfd, holding, Part::Add, changes)?;
+    text.text_member(alloc, "flavourId", vnfd.flavour_id.as_str())?;
+    text.member(alloc, "isAutomaticInvocation", &Value::Bool(false))?;
+    text.text_member(alloc, "operation", operation_word(op_kind(ask)))?;
+    text.name(alloc, "removeResources")?;
+    write_entries(text, alloc, vnfd, holding, Part::Remove, changes)?;
+    text.name(alloc, "updateResources")?;
+    write_entries(text, alloc, vnfd, holding, Part::Update, changes)?;
+    text.text_member(alloc, "vnfInstanceId", instance.as_str())?;
+    text.text_member(alloc, "vnfLcmOpOccId", occ.as_str())?;
+    text.text_member(alloc, "vnfdId", vnfd.descriptor_id.as_str())?;
+    text.end_object()
 }
 
 /// The text of the identifier of an instance.

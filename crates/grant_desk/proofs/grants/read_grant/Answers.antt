@@ -1,5 +1,5 @@
 -- What the bytes are read as.
-use Rattle.std.proofs.Common.{◌≡◌, Option, None, IfOk, subst, sym}
+use Rattle.std.proofs.Common.{◌≡◌, Option, IfOk, subst, sym}
 use Rattle.std.proofs.lemmas.Bool.{iff_false}
 use Rattle.serde_json.specs.View.{view}
 use Rattle.grant_desk.specs.declared.rows.GrantRows.{GrantRows}

@@ -1,5 +1,5 @@
 -- A row that finds nothing new.
-use Rattle.std.proofs.Common.{◌≡◌, ◌<◌, ◌^◌, arith, refl, length}
+use Rattle.std.proofs.Common.{◌<◌, arith, refl, length}
 use Rattle.grant_desk.proofs.PlacingLaws.{found_before, not_asked, row_found}
 use Rattle.grant_desk.proofs.placing.find_row.Goals as goal
 use Rattle.grant_desk.proofs.placing.find_row.Goals.{else-asks-via-then-asks+else-is_none, else-asks-via-else-asks}

@@ -1,5 +1,5 @@
 -- What covering rows record may be recorded.
-use Rattle.std.proofs.Common.{◌≡◌, ◌≤◌, List, ℕ, ap, ◌∙◌, length, arith, filter_map}
+use Rattle.std.proofs.Common.{◌≡◌, ◌≤◌, List, ap, ◌∙◌, length, arith, filter_map}
 use Rattle.lcm_events.specs.declared.places.Place.{Place}
 use Rattle.lcm_model.specs.Grants.{distinct_places, granted_places, place_number}
 use Rattle.lcm_laws.proofs.CoverLaws.{rows_place}

@@ -1,5 +1,5 @@
 -- No pair is left.
-use Rattle.std.proofs.Common.{◌≡◌, ◌∙◌, List, [], ◌∷◌, ◌⊎◌, inl, inr, length, Bool, true, ℕ, sym, refl}
+use Rattle.std.proofs.Common.{◌≡◌, ◌∙◌, List, [], ◌∷◌, ◌⊎◌, inl, inr, length, true, ℕ, sym, refl}
 use Rattle.lcm_events.specs.declared.changes.Change.{Change}
 use Rattle.grant_desk.specs.declared.parts.Part.{Part}
 use Rattle.grant_desk.specs.Tallies.{are_counted_once}

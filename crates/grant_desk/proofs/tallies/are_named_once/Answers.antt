@@ -1,7 +1,6 @@
 -- The changes that are left are those of this walk and those of the later ones.
-use Rattle.std.proofs.Common.{◌≡◌, ◌≤◌, ◌<◌, ◌+◌, ◌++◌, ◌^◌, ◌∙◌, Bool, List, ℕ, ap, sym, refl, arith, take, drop, length, take-append-drop}
+use Rattle.std.proofs.Common.{◌≡◌, ◌≤◌, ◌<◌, ◌+◌, ◌++◌, ◌^◌, ◌∙◌, List, ℕ, ap, sym, refl, arith, take, drop, length, take-append-drop}
 use Rattle.grant_desk.proofs.TallyLaws.{walk}
-use Rattle.grant_desk.specs.Tallies.{are_named_once}
 use Rattle.grant_desk.proofs.tallies.are_named_once.Goals as goal
 
 all_parts : {A : Type 0} (n : ℕ) (xs front back : List A) → front ≡ take n xs → back ≡ drop n xs → xs ≡ front ++ back

@@ -1,5 +1,5 @@
 -- The changes that are left are those from the first on, and what they say is what all say.
-use Rattle.std.proofs.Common.{◌≡◌, ◌<◌, ◌+◌, length}
+use Rattle.std.proofs.Common.{◌≡◌, ◌+◌, length}
 use Rattle.grant_desk.specs.Tallies.{are_named_once}
 use Rattle.grant_desk.proofs.tallies.are_named_once.Given as goal
 
