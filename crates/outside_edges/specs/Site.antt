@@ -1,6 +1,6 @@
 -- The journal's real file.
 use Rattle.std.specs.Prelude.{◌≡◌, ◌≢◌, ◌⊎◌, ℕ, ◌+◌, ◌-◌, nat_le, List, [], length, take, drop, true, Option, Some}
-use Rattle.std.specs.Prelude.{None, IfSome, IsSomeAnd, if◌then◌else◌}
+use Rattle.std.specs.Prelude.{None, IfSome, IsSome, IsSomeAnd, Result, Ok, Err, if◌then◌else◌}
 use Rattle.std.specs.Int.{w32, from_be_bytes}
 use Rattle.std.specs.declared.io.ErrorKind.{ErrorKind}
 use Rattle.std.specs.declared.io.ErrorKind.TheVariants as kind
@@ -72,14 +72,21 @@ abbrev pub IsHeld : {F : Type 0} → (F → SiteState) → (F → Hold) → List
     → FilesState → Type 0
 IsHeld state hold path folder file old new = IfSome file (λ f. IsHad state hold path folder f old new)
 
--- why a file couldn't be had, by the kind of the fault of the call that failed
+-- Why a file couldn't be had, or a call on it failed, by the kind of the fault of the call that failed. That something
+-- is there is said of a making alone, which comes where an opening found nothing: so it is a symbolic link to nothing.
 abbrev pub why_by : ErrorKind → WhyLost
 why_by kind.WouldBlock = why.Locked
 why_by kind.NotFound = why.NoFolder
 why_by kind.NotADirectory = why.NoFolder
 why_by kind.PermissionDenied = why.NotPermitted
-why_by kind.ReadOnlyFilesystem = why.NotPermitted
+why_by kind.ReadOnlyFilesystem = why.ReadOnly
 why_by kind.IsADirectory = why.NotAFile
+why_by kind.AlreadyExists = why.DanglingLink
+why_by kind.FilesystemLoop = why.LinkLoop
+why_by kind.InvalidFilename = why.NameTooLong
+why_by kind.StorageFull = why.NoSpace
+why_by kind.QuotaExceeded = why.Quota
+why_by kind.FileTooLarge = why.TooLarge
 why_by kind.OutOfMemory = why.Memory
 why_by _ = why.Other
 
@@ -87,3 +94,9 @@ why_by _ = why.Other
 abbrev pub IsExplained : {F : Type 0} → Option F → Option WhyLost → Type 0
 IsExplained (Some file) lost = lost ≡ None
 IsExplained None lost = IsSomeAnd lost (λ cause. cause ≢ why.Memory)
+
+-- the word behind a disk call: where the call succeeded it stays, and where there is no file, and else there is one
+abbrev pub IsWhyBehind : {T E F : Type 0} → Result T E → Option F → Option WhyLost → Option WhyLost → Type 0
+IsWhyBehind (Ok done) file old new = new ≡ old
+IsWhyBehind (Err failed) None old new = new ≡ old
+IsWhyBehind (Err failed) (Some file) old new = IsSome new

@@ -1,6 +1,6 @@
 //! The journal's real file, under its exclusive lock.
 ghost use Rattle.std.specs.Prelude.{◌≡◌, ◌≤◌, ◌+◌, ◌∷◌, IfOk, OnErr, OnOk, IsErr, None, length, take, drop, true};
-ghost use Rattle.std.specs.Prelude.{if◌then◌else◌};
+ghost use Rattle.std.specs.Prelude.{Some, if◌then◌else◌};
 ghost use Rattle.std.specs.Int.{w32, from_be_bytes};
 ghost use Rattle.std.specs.IoError.{error_kind};
 ghost use Rattle.site_traits.specs.Counts.{Ask, asked, DiskCause, abort_counts, begin_counts, look_counts, one_more};
@@ -11,7 +11,7 @@ ghost use Rattle.outside_edges.specs.Having.{Goes, IsLent, LeavesAll, MakesAtAll
 ghost use Rattle.outside_edges.specs.Having.{to_name};
 ghost use Rattle.outside_edges.specs.Jobs.{JobCall};
 ghost use Rattle.outside_edges.specs.Site.{counts_of, manager_by, number_in, state_in, IsHad, IsExplained, IsHeld};
-ghost use Rattle.outside_edges.specs.Site.{OneCall, why_by};
+ghost use Rattle.outside_edges.specs.Site.{IsWhyBehind, OneCall, why_by};
 
 use crate::counted::{count_call, count_fault};
 use crate::jobs::Jobs;
@@ -35,7 +35,7 @@ pub enum FolderSync {
     WhereMade,
 }
 
-/// Why the journal's file couldn't be had.
+/// Why the journal's file couldn't be had, or why a disk call on it failed.
 #[derive(Clone, Copy)]
 pub enum WhyLost {
     /// Another has its lock.
@@ -44,8 +44,22 @@ pub enum WhyLost {
     NoFolder,
     /// It may not be read or written.
     NotPermitted,
+    /// Its file system is read-only.
+    ReadOnly,
     /// It is no regular file.
     NotAFile,
+    /// It is a symbolic link to nothing.
+    DanglingLink,
+    /// Its symbolic links form a loop, or are too many.
+    LinkLoop,
+    /// A name in its path, or the whole path, is too long.
+    NameTooLong,
+    /// Its file system has no space or no inode left.
+    NoSpace,
+    /// The quota on its file system is used up.
+    Quota,
+    /// It would be larger than a file may be.
+    TooLarge,
     /// There was no memory.
     Memory,
     /// The disk failed, or something else did.
@@ -163,7 +177,8 @@ impl<F: HostFile + Drop, J: Jobs<F> + Drop> RealSite<F, J> {
         }
     }
 
-    /// Why the file couldn't be had, where it was asked for and couldn't.
+    /// Why the file couldn't be had, where it was asked for and couldn't; else why the last disk call on it that failed
+    /// did, where one did.
     pub fn why(&self) -> Option<WhyLost>
         ensures { result ≡ self.now.why }
     {
@@ -250,15 +265,22 @@ fn lent<H: HostFiles>(host: &mut H, opened: H::Opened) -> Result<H::File, WhyLos
     Ok(host.lend(opened))
 }
 
-/// Why a file couldn't be had, by the fault of the call that failed.
+/// Why a file couldn't be had, or a disk call on it failed, by the fault of the call that did.
 fn why_of(fault: io::Error) -> WhyLost
     ensures { result ≡ why_by (error_kind fault) }
 {
     match fault.kind() {
         ErrorKind::WouldBlock => WhyLost::Locked,
         ErrorKind::NotFound | ErrorKind::NotADirectory => WhyLost::NoFolder,
-        ErrorKind::PermissionDenied | ErrorKind::ReadOnlyFilesystem => WhyLost::NotPermitted,
+        ErrorKind::PermissionDenied => WhyLost::NotPermitted,
+        ErrorKind::ReadOnlyFilesystem => WhyLost::ReadOnly,
         ErrorKind::IsADirectory => WhyLost::NotAFile,
+        ErrorKind::AlreadyExists => WhyLost::DanglingLink,
+        ErrorKind::FilesystemLoop => WhyLost::LinkLoop,
+        ErrorKind::InvalidFilename => WhyLost::NameTooLong,
+        ErrorKind::StorageFull => WhyLost::NoSpace,
+        ErrorKind::QuotaExceeded => WhyLost::Quota,
+        ErrorKind::FileTooLarge => WhyLost::TooLarge,
         ErrorKind::OutOfMemory => WhyLost::Memory,
         _ => WhyLost::Other,
     }
@@ -275,18 +297,20 @@ impl<F: HostFile, J: Jobs<F>> Site for RealSite<F, J> {
 
     fn length(&mut self) -> Result<u64, DiskFailed>
         ensures lost { self.old.file ≡ None → IsErr result }
+        ensures why { IsWhyBehind result self.old.file self.old.why self.new.why }
         ensures one { F.tells → OneCall F.calls self.old.file self.new.file }
         ensures length { F.tells → IfOk result (λ n. n ≡ length (state_in F.state self.old.file).image) }
         ensures told { F.tells → Reads (state_in F.state self.old.file) (state_in F.state self.new.file) }
         ensures cause { DiskCause (counts_of self.old) (counts_of self.new) result }
         ensures jobs { self.new.jobs ≡ self.old.jobs }
     {
-        length_of(&mut self.file, &mut self.faults)
+        length_of(&mut self.file, &mut self.faults, &mut self.why)
     }
 
     fn read_at(&mut self, at: u64, into: &mut [u8]) -> Result<(), DiskFailed>
         requires { F.tells → at + length into.old ≤ length (state_in F.state self.old.file).image }
         ensures lost { self.old.file ≡ None → IsErr result }
+        ensures why { IsWhyBehind result self.old.file self.old.why self.new.why }
         ensures one { F.tells → OneCall F.calls self.old.file self.new.file }
         ensures bytes { F.tells → OnOk result (into.new ≡ take (length into.old)
             (drop at (state_in F.state self.old.file).image)) }
@@ -297,7 +321,7 @@ impl<F: HostFile, J: Jobs<F>> Site for RealSite<F, J> {
         ensures unnoted { OnErr result (self.new.jobs ≡ self.old.jobs) }
         ensures unasked { J.calls self.new.jobs ≡ J.calls self.old.jobs }
     {
-        match read_from(&mut self.file, at, into, &mut self.faults) {
+        match read_from(&mut self.file, at, into, &mut self.faults, &mut self.why) {
             Ok(()) => {
                 if let Some(manager) = number_in(at, into) {
                     self.jobs.of_manager(manager);
@@ -311,6 +335,7 @@ impl<F: HostFile, J: Jobs<F>> Site for RealSite<F, J> {
     fn write_at(&mut self, at: u64, bytes: &[u8]) -> Result<(), DiskFailed>
         requires { F.tells → at ≤ length (state_in F.state self.old.file).image }
         ensures lost { self.old.file ≡ None → IsErr result }
+        ensures why { IsWhyBehind result self.old.file self.old.why self.new.why }
         ensures one { F.tells → OneCall F.calls self.old.file self.new.file }
         ensures told { F.tells → Writes at bytes.now result (state_in F.state self.old.file)
             (state_in F.state self.new.file) }
@@ -318,30 +343,32 @@ impl<F: HostFile, J: Jobs<F>> Site for RealSite<F, J> {
         ensures jobs { self.new.jobs ≡ self.old.jobs }
     {
         count_call(&mut self.writes);
-        write_to(&mut self.file, at, bytes, &mut self.faults)
+        write_to(&mut self.file, at, bytes, &mut self.faults, &mut self.why)
     }
 
     fn cut(&mut self, to: u64) -> Result<(), DiskFailed>
         requires { F.tells → to ≤ length (state_in F.state self.old.file).image }
         ensures lost { self.old.file ≡ None → IsErr result }
+        ensures why { IsWhyBehind result self.old.file self.old.why self.new.why }
         ensures one { F.tells → OneCall F.calls self.old.file self.new.file }
         ensures told { F.tells → Cuts to result (state_in F.state self.old.file) (state_in F.state self.new.file) }
         ensures cause { DiskCause (asked Ask.cut (counts_of self.old)) (counts_of self.new) result }
         ensures jobs { self.new.jobs ≡ self.old.jobs }
     {
         count_call(&mut self.cuts);
-        cut_to(&mut self.file, to, &mut self.faults)
+        cut_to(&mut self.file, to, &mut self.faults, &mut self.why)
     }
 
     fn sync(&mut self) -> Result<(), DiskFailed>
         ensures lost { self.old.file ≡ None → IsErr result }
+        ensures why { IsWhyBehind result self.old.file self.old.why self.new.why }
         ensures one { F.tells → OneCall F.calls self.old.file self.new.file }
         ensures told { F.tells → Syncs result (state_in F.state self.old.file) (state_in F.state self.new.file) }
         ensures cause { DiskCause (asked Ask.sync (counts_of self.old)) (counts_of self.new) result }
         ensures jobs { self.new.jobs ≡ self.old.jobs }
     {
         count_call(&mut self.syncs);
-        sync_of(&mut self.file, &mut self.faults)
+        sync_of(&mut self.file, &mut self.faults, &mut self.why)
     }
 
     fn begin(&mut self, tag: &Tag, act: &Act) -> BeginAnswer
@@ -412,6 +439,20 @@ fn number_in(at: u64, bytes: &[u8]) -> Option<u32>
     }
 }
 
+/// A disk call that failed by this fault is counted, and its cause is kept.
+fn fail_by<T>(
+    fault: io::Error,
+    faults: &mut u64,
+    why: &mut Option<WhyLost>,
+) -> Result<T, DiskFailed>
+    ensures fails { IsErr result }
+    ensures counted { faults.new ≡ one_more faults.old }
+    ensures why { why.new ≡ Some (why_by (error_kind fault)) }
+{
+    *why = Some(why_of(fault));
+    fail(faults)
+}
+
 /// A disk call that failed is counted.
 fn fail<T>(faults: &mut u64) -> Result<T, DiskFailed>
     ensures fails { IsErr result }
@@ -421,9 +462,14 @@ fn fail<T>(faults: &mut u64) -> Result<T, DiskFailed>
     Err(DiskFailed)
 }
 
-fn length_of<F: HostFile>(file: &mut Option<F>, faults: &mut u64) -> Result<u64, DiskFailed>
+fn length_of<F: HostFile>(
+    file: &mut Option<F>,
+    faults: &mut u64,
+    why: &mut Option<WhyLost>,
+) -> Result<u64, DiskFailed>
     ensures lost { file.old ≡ None → IsErr result }
     ensures counted { CountsOne result faults.old faults.new }
+    ensures why { IsWhyBehind result file.old why.old why.new }
     ensures one { F.tells → OneCall F.calls file.old file.new }
     ensures length { F.tells → IfOk result (λ n. n ≡ length (state_in F.state file.old).image) }
     ensures told { F.tells → Reads (state_in F.state file.old) (state_in F.state file.new) }
@@ -431,7 +477,7 @@ fn length_of<F: HostFile>(file: &mut Option<F>, faults: &mut u64) -> Result<u64,
     match file {
         Some(file) => match file.length() {
             Ok(length) => Ok(length),
-            Err(_) => fail(faults),
+            Err(fault) => fail_by(fault, faults, why),
         },
         None => fail(faults),
     }
@@ -442,10 +488,12 @@ fn read_from<F: HostFile>(
     at: u64,
     into: &mut [u8],
     faults: &mut u64,
+    why: &mut Option<WhyLost>,
 ) -> Result<(), DiskFailed>
     requires { F.tells → at + length into.old ≤ length (state_in F.state file.old).image }
     ensures lost { file.old ≡ None → IsErr result }
     ensures counted { CountsOne result faults.old faults.new }
+    ensures why { IsWhyBehind result file.old why.old why.new }
     ensures one { F.tells → OneCall F.calls file.old file.new }
     ensures bytes { F.tells → OnOk result (into.new ≡ take (length into.old)
         (drop at (state_in F.state file.old).image)) }
@@ -454,7 +502,7 @@ fn read_from<F: HostFile>(
     match file {
         Some(file) => match file.read_exact_at(into, at) {
             Ok(()) => Ok(()),
-            Err(_) => fail(faults),
+            Err(fault) => fail_by(fault, faults, why),
         },
         None => fail(faults),
     }
@@ -465,48 +513,61 @@ fn write_to<F: HostFile>(
     at: u64,
     bytes: &[u8],
     faults: &mut u64,
+    why: &mut Option<WhyLost>,
 ) -> Result<(), DiskFailed>
     requires { F.tells → at ≤ length (state_in F.state file.old).image }
     ensures lost { file.old ≡ None → IsErr result }
     ensures counted { CountsOne result faults.old faults.new }
+    ensures why { IsWhyBehind result file.old why.old why.new }
     ensures one { F.tells → OneCall F.calls file.old file.new }
     ensures told { F.tells → Writes at bytes.now result (state_in F.state file.old) (state_in F.state file.new) }
 {
     match file {
         Some(file) => match file.write_all_at(bytes, at) {
             Ok(()) => Ok(()),
-            Err(_) => fail(faults),
+            Err(fault) => fail_by(fault, faults, why),
         },
         None => fail(faults),
     }
 }
 
-fn cut_to<F: HostFile>(file: &mut Option<F>, to: u64, faults: &mut u64) -> Result<(), DiskFailed>
+fn cut_to<F: HostFile>(
+    file: &mut Option<F>,
+    to: u64,
+    faults: &mut u64,
+    why: &mut Option<WhyLost>,
+) -> Result<(), DiskFailed>
     requires { F.tells → to ≤ length (state_in F.state file.old).image }
     ensures lost { file.old ≡ None → IsErr result }
     ensures counted { CountsOne result faults.old faults.new }
+    ensures why { IsWhyBehind result file.old why.old why.new }
     ensures one { F.tells → OneCall F.calls file.old file.new }
     ensures told { F.tells → Cuts to result (state_in F.state file.old) (state_in F.state file.new) }
 {
     match file {
         Some(file) => match file.set_len(to) {
             Ok(()) => Ok(()),
-            Err(_) => fail(faults),
+            Err(fault) => fail_by(fault, faults, why),
         },
         None => fail(faults),
     }
 }
 
-fn sync_of<F: HostFile>(file: &mut Option<F>, faults: &mut u64) -> Result<(), DiskFailed>
+fn sync_of<F: HostFile>(
+    file: &mut Option<F>,
+    faults: &mut u64,
+    why: &mut Option<WhyLost>,
+) -> Result<(), DiskFailed>
     ensures lost { file.old ≡ None → IsErr result }
     ensures counted { CountsOne result faults.old faults.new }
+    ensures why { IsWhyBehind result file.old why.old why.new }
     ensures one { F.tells → OneCall F.calls file.old file.new }
     ensures told { F.tells → Syncs result (state_in F.state file.old) (state_in F.state file.new) }
 {
     match file {
         Some(file) => match file.sync_data() {
             Ok(()) => Ok(()),
-            Err(_) => fail(faults),
+            Err(fault) => fail_by(fault, faults, why),
         },
         None => fail(faults),
     }
