@@ -1,3 +1,4 @@
+pub mod Account
 pub mod Mouth
 pub mod Waiting
 pub mod World

@@ -7,15 +7,17 @@ use Rattle.http_wire.specs.declared.request.Taken.{Taken}
 use Rattle.http_wire.specs.declared.request.Taken.TheVariants as taken
 use Rattle.http_wire.specs.declared.request.WireFault.{WireFault}
 use Rattle.http_wire.specs.Exact.{IsExact}
+use Rattle.served_account.specs.declared.account.Account.{Account}
 use Rattle.http_wire.specs.Wire.{WireState, TakenIs, bytes_of}
 
--- What the wire stands for, the request in hand with the role that it was heard for, and the moments of the site at
--- which something was told, the latest first.
+-- What the wire stands for, the request in hand with the role that it was heard for, the moments of the site at which
+-- something was told, the latest first, and what was heard and answered so far.
 pub record MouthState : Type 0 where
   pub wire : WireState
   pub hand : Option Request
   pub role : Role
   pub told : List ℕ
+  pub account : Account
 
 -- Nothing changes but at the door and in what was told: the bytes that were read and belong to no request yet stay, and
 -- so does what was taken, and what is in hand.

@@ -1,20 +1,24 @@
 //! The mouth: a wire, the request in hand, and the one call that writes to the door.
 ghost use Rattle.std.specs.Prelude.{◌≡◌, ◌≤◌, ◌<◌, [], ◌∷◌, length, take, IfOk, Some, is_some, true, false};
 ghost use Rattle.std.specs.Result.{is_err};
+ghost use Rattle.served_account.specs.Beginning.{nothing_yet};
 ghost use Rattle.site_traits.specs.Door.{Nexts, HangsUp, NextCause, closed};
 ghost use Rattle.http_wire.specs.Wire.{OnlyTakesIn, ReadCounts};
 ghost use Rattle.lcm_api.specs.Answering.{IsAcknowledged};
 ghost use Rattle.lcm_replies.specs.Failing.{FailsOnce};
 ghost use Rattle.lcm_replies.specs.Hearing.{Hears};
+ghost use Rattle.lcm_mouth.specs.Account.{once_heard, once_told};
 ghost use Rattle.lcm_mouth.specs.Mouth.{Begins, Heard, OnlyAtDoor};
 ghost use Rattle.lcm_replies.specs.Response.{text};
 ghost use Rattle.lcm_replies.specs.Telling.{AsksWrites, WorldTells, pieces};
 
+use crate::account::last_heard;
 use executor::Manager;
 use http_wire::{CONNECTION_REQUESTS, Request, Taken, Wire, WireFault};
 use lcm_events::Role;
 use lcm_replies::{DoorFailed, Outgoing, Reading, Reply, read_to_end, tell_reply};
 use lcm_routes::Routes;
+use served_account::{Account, JsonBreak};
 use site_traits::{Door, NextAnswer, Site};
 use std::alloc::{AllocError, Global};
 use std::marker::Model;
@@ -24,7 +28,8 @@ use told_moments::ToldMoments;
 /// with the role that it was heard for.
 ///
 /// It owns the wire and with it the door, and `tell` is the one call that writes to the door. Each telling is noted by
-/// the moment of the site at which it came, which only proofs read.
+/// the moment of the site at which it came, which only proofs read. Beside it keeps account of what was heard and
+/// answered, for a person who asks how a run went.
 pub struct Mouth<D: Door> {
     wire: Wire<D>,
     outgoing: Outgoing,
@@ -32,6 +37,7 @@ pub struct Mouth<D: Door> {
     hand: Option<Request>,
     role: Role,
     told: ToldMoments,
+    account: Account,
 }
 
 impl<D: Door + Drop> Drop for Mouth<D> {
@@ -44,6 +50,7 @@ impl<D: Door + Drop> Drop for Mouth<D> {
             hand: _,
             role: _,
             told: _,
+            account: _,
         } = self;
     }
 }
@@ -53,7 +60,13 @@ impl<D: Door> Model for Mouth<D> {
 
     ghost Value = { MouthState };
 
-    ghost view = { λ m. record { wire = m.wire; hand = m.hand; role = m.role; told = m.told.moments } };
+    ghost view = { λ m. record {
+      wire = m.wire;
+      hand = m.hand;
+      role = m.role;
+      told = m.told.moments;
+      account = m.account;
+    } };
 }
 
 impl<D: Door> Mouth<D> {
@@ -66,6 +79,7 @@ impl<D: Door> Mouth<D> {
         ensures writes { IfOk result (λ m. m.wire.intake.writes ≡ D.writes door) }
         ensures begins { IfOk result Begins }
         ensures unnoted { IfOk result (λ m. m.told ≡ []) }
+        ensures account { IfOk result (λ m. m.account ≡ nothing_yet) }
     {
         let wire = Wire::new(alloc, door)?;
         let outgoing = Outgoing::new(alloc)?;
@@ -77,6 +91,7 @@ impl<D: Door> Mouth<D> {
             hand: None,
             role: Role::Orchestrator,
             told: ToldMoments::new(),
+            account: Account::new(),
         })
     }
 
@@ -97,6 +112,7 @@ impl<D: Door> Mouth<D> {
         ensures begins { Begins self.new }
         ensures role { self.new.role ≡ self.old.role }
         ensures unnoted { self.new.told ≡ self.old.told }
+        ensures account { self.new.account ≡ self.old.account }
     {
         self.hand = None;
         self.wire.renew();
@@ -111,6 +127,7 @@ impl<D: Door> Mouth<D> {
         ensures no_write { self.new.wire.intake.writes ≡ self.old.wire.intake.writes }
         ensures kept { OnlyAtDoor self.old self.new }
         ensures unnoted { self.new.told ≡ self.old.told }
+        ensures account { self.new.account ≡ self.old.account }
     {
         self.wire.door_mut().hang_up();
     }
@@ -130,6 +147,7 @@ impl<D: Door> Mouth<D> {
         ensures no_write { self.new.wire.intake.writes ≡ self.old.wire.intake.writes }
         ensures kept { OnlyAtDoor self.old self.new }
         ensures unnoted { self.new.told ≡ self.old.told }
+        ensures account { self.new.account ≡ self.old.account }
     {
         read_to_end(self.wire.door_mut(), room)
     }
@@ -150,6 +168,24 @@ impl<D: Door> Mouth<D> {
         ensures counts { ReadCounts result self.old.wire.intake.counts self.new.wire.intake.counts }
         ensures few { self.new.wire.taken ≤ CONNECTION_REQUESTS }
         ensures unnoted { self.new.told ≡ self.old.told }
+        ensures account { self.new.account ≡ once_heard result self.old.account }
+    {
+        let heard = self.take_in_hand(alloc, role);
+        self.account.last = last_heard(&heard);
+        heard
+    }
+
+    /// Takes the next request of the connection in hand, for this role.
+    fn take_in_hand(&mut self, alloc: Global, role: Role) -> Result<bool, WireFault>
+        requires up { self.old.wire.ended ≡ false → self.old.wire.intake.counts.up ≡ true }
+        ensures reads { OnlyTakesIn D.tells self.old.wire.intake self.new.wire.intake }
+        ensures behind_the_last { self.old.wire.ended ≡ true → self.new.wire ≡ self.old.wire }
+        ensures heard { Heard D.tells result self.old self.new }
+        ensures role { self.new.role ≡ role }
+        ensures counts { ReadCounts result self.old.wire.intake.counts self.new.wire.intake.counts }
+        ensures few { self.new.wire.taken ≤ CONNECTION_REQUESTS }
+        ensures unnoted { self.new.told ≡ self.old.told }
+        ensures account { self.new.account ≡ self.old.account }
     {
         self.hand = None;
         self.role = role;
@@ -186,9 +222,32 @@ impl<D: Door> Mouth<D> {
             self.new.wire.intake.writes }
         ensures kept { OnlyAtDoor self.old self.new }
         ensures noted { self.new.told ≡ (S.state site.now).moment ∷ self.old.told }
+        ensures account { self.new.account ≡ once_told self.old.hand result self.old.account }
     {
         self.told = self.told.with(site);
-        tell_reply(self.wire.door_mut(), &mut self.outgoing, reply)
+        let told = tell_reply(self.wire.door_mut(), &mut self.outgoing, reply);
+        if told.is_ok() && self.hand.is_some() {
+            self.account.answered = self.account.answered.saturating_add(1);
+        }
+        told
+    }
+
+    /// Notes where a document that was read ends being JSON. Nothing else changes.
+    ///
+    /// Source: own rule.
+    pub fn note_break(&mut self, at: Option<JsonBreak>)
+        ensures { self.new ≡ record self.old { account = record self.old.account { broken = at } } }
+    {
+        self.account.broken = at;
+    }
+
+    /// What was heard and answered so far.
+    ///
+    /// Source: own rule.
+    pub fn account(&self) -> Account
+        ensures { result ≡ self.now.account }
+    {
+        self.account
     }
 
     /// The paths that a request may name.

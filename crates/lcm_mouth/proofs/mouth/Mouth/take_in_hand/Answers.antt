@@ -6,7 +6,7 @@ use Rattle.http_wire.specs.declared.request.WireFault.{WireFault}
 use Rattle.http_wire.specs.Exact.{IsExact}
 use Rattle.http_wire.specs.Wire.{WireState, TakenIs, bytes_of}
 use Rattle.lcm_mouth.specs.Mouth.{Takes}
-use Rattle.lcm_mouth.proofs.mouth.Mouth.hear.Goals as goal
+use Rattle.lcm_mouth.proofs.mouth.Mouth.take_in_hand.Goals as goal
 
 -- the wire is the mouth's
 takes : (tells : Type 0) (answer : Result Taken WireFault) (a w b : WireState) → a ≡ w → TakenIs tells a b answer
