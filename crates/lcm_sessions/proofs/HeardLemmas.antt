@@ -1,5 +1,5 @@
 -- What onboarding does, by what was heard at the door.
-use Rattle.std.proofs.Common.{◌≡◌, ℕ, Bool, List, [], take, min, true, false, Result, Ok, Err, inl, inr, refl, ap, ◌∙◌, ⊎_elim}
+use Rattle.std.proofs.Common.{◌≡◌, ℕ, Bool, List, [], take, min, true, false, Result, Ok, Err, inl, inr, refl, ap, subst, sym, ◌∙◌, ⊎_elim}
 use Rattle.executor.specs.Managed.{Managed, IsReady}
 use Rattle.executor.specs.Work.{Idles, Works}
 use Rattle.lcm_replies.specs.Failing.{counts_by}
@@ -53,6 +53,28 @@ onboards_heard t m H n count now value room answer w v hears told works gives mo
   },
   told,
 )
+
+-- what a mouth keeps account of doesn't matter to what was heard
+pub hears_noted : (tells : Type 0) (count : ℕ) (room : List ℕ) (a b c : MouthState)
+    → HearsDescriptor tells (Ok count) room a b → c ≡ record b { account = c.account }
+    → HearsDescriptor tells (Ok count) room a c
+hears_noted tells count room a b c hears noted =
+    subst (λ (d : MouthState). HearsDescriptor tells (Ok count) room a d) (sym noted) (⊎_elim
+    (λ (some : Brings tells (take count room) false a b). inl (record {
+      came = some.came;
+      between = some.between;
+      comes = some.comes;
+      counts = some.counts;
+      behind = some.behind;
+      hears = some.hears;
+      fails = some.fails;
+      gone = some.gone;
+      down = some.down;
+      silent = some.silent;
+    }))
+    (λ (none : BringsNothing tells (take count room) a b).
+    inr (record { none = none.none; nobody = none.nobody; counts = none.counts }))
+    hears)
 
 -- nothing was heard
 pub onboards_unheard : (t : WorldTells) (m : Managed) (H : List Event) (why : Unheard) (room : List ℕ) (s : SiteState) (c d : MouthState)

@@ -1,15 +1,16 @@
 -- What comes of onboarding: what was heard, the work that was done, and the answer (own rule, docs/FORMATS.md).
-use Rattle.std.specs.Prelude.{ℕ, List, ◌++◌, length, Result, Ok, Err}
+use Rattle.std.specs.Prelude.{ℕ, Bool, true, false, List, ◌++◌, length, Result, Ok, Err}
 use Rattle.executor.specs.Work.{Work, went, broke}
 use Rattle.executor.specs.declared.manager.WorkFault.{WorkFault}
 use Rattle.executor.specs.declared.manager.WorkFault.TheVariants as work
 use Rattle.lcm_events.specs.declared.descriptor.Vnfd.{Vnfd}
 use Rattle.lcm_events.specs.declared.events.Event.{Event}
 use Rattle.lcm_sessions.specs.Verdict.{Verdict, refused, full, accepted, verdict, onboarded}
-use Rattle.lcm_sessions.specs.declared.answer.DescriptorRefusal.TheVariants.{TooLong}
+use Rattle.lcm_sessions.specs.declared.answer.DescriptorRefusal.TheVariants.{TooLong, Unread}
 use Rattle.lcm_sessions.specs.declared.answer.Onboarded.{Onboarded}
 use Rattle.lcm_sessions.specs.declared.answer.OnboardFault.{OnboardFault}
 use Rattle.lcm_sessions.specs.declared.answer.OnboardFault.TheVariants as fault
+use Rattle.vnfd_document.specs.declared.fault.VnfdFault.TheVariants.{NotJson}
 
 -- how the work on the journal ended: it was done, there was no memory, or the disk failed
 pub data Ended : Type 0 where
@@ -63,6 +64,11 @@ answer_of H unready = Err fault.Memory
 answer_of H unheard = Err fault.Door
 answer_of H (cut_off bytes) = Err fault.Door
 answer_of H (heard bytes now ended) = judged_answer (verdict H now bytes) ended
+
+-- the bytes were refused as no JSON object
+abbrev pub is_no_object : Result Onboarded OnboardFault → Bool
+is_no_object (Err (fault.Refused (Unread NotJson))) = true
+is_no_object other = false
 
 -- how the work on the journal ended, by the answer
 abbrev pub ended_by : Result Onboarded OnboardFault → Ended
