@@ -1,12 +1,20 @@
 -- The line that says why a run ended as it did (own rule, docs/FORMATS.md).
-use Rattle.std.specs.Prelude.{◌≡◌, ℕ, List, ◌++◌, codes, drop, Option, Some, None, slice_get}
+use Rattle.std.specs.Prelude.{◌≡◌, ◌||◌, ℕ, List, [], ◌∷◌, ◌++◌, codes, decimal, drop, if◌then◌else◌, Option, Some}
+use Rattle.std.specs.Prelude.{None, slice_get}
+use Rattle.std.specs.Str.{bytes_eq}
 use Rattle.command_line.specs.Words.{value_in}
+use Rattle.outside_edges.specs.declared.real_site.WhyLost.{WhyLost}
+use Rattle.outside_edges.specs.declared.real_site.WhyLost.TheVariants as why
 use Rattle.program_words.specs.Wrong.{wrong_of}
 use Rattle.program_words.specs.declared.reason.Reason.{Reason}
 use Rattle.program_words.specs.declared.reason.Reason.TheVariants as say
+use Rattle.program_words.specs.declared.reason.TheConstants.{ADVICE}
 use Rattle.program_words.specs.declared.wrong.Wrong.{Wrong}
-use Rattle.program_words.specs.declared.wrong.Wrong.TheVariants.{Word, NoCommand, NoValue, NoJournal, NoManager}
-use Rattle.program_words.specs.declared.wrong.Wrong.TheVariants.{Nothing}
+use Rattle.served_account.specs.declared.account.Hearing.{Hearing}
+use Rattle.served_account.specs.declared.account.Hearing.TheVariants as hearing
+use Rattle.served_account.specs.declared.account.JsonBreak.{JsonBreak}
+use Rattle.program_words.specs.declared.wrong.Wrong.TheVariants.{Word, NotBuilt, Twice, NoCommand, NoValue, Value}
+use Rattle.program_words.specs.declared.wrong.Wrong.TheVariants.{NoJournal, NoManager, Nothing}
 
 -- a line that says this
 abbrev pub plain_line : List ℕ → List ℕ
@@ -21,43 +29,113 @@ abbrev pub IsAboutPath : Option (List ℕ) → List ℕ → List ℕ → Type 0
 IsAboutPath (Some path) text line = IsLineOn (codes ": ") text line
 IsAboutPath None text line = line ≡ plain_line text
 
--- a line that says this of the journal, whose path stands behind `--journal`
+-- the journal's path, where the words name one behind `--journal`
+abbrev pub path_in : List (List ℕ) → Option (List ℕ)
+path_in words = value_in (codes "--journal") (drop 1 words)
+
+-- a line that says this of the journal's path
 abbrev pub IsAboutJournal : List (List ℕ) → List ℕ → List ℕ → Type 0
-IsAboutJournal words text line = IsAboutPath (value_in (codes "--journal") (drop 1 words)) text line
+IsAboutJournal words text line = IsAboutPath (path_in words) text line
 
 -- a line that says this of one of the words
 abbrev pub IsAboutWord : List ℕ → Option (List ℕ) → List ℕ → Type 0
 IsAboutWord text (Some word) line = IsLineOn (codes " ") text line
 IsAboutWord text None line = line ≡ plain_line (codes "the words are no command; vnfm --help says more")
 
+-- what an option takes
+abbrev pub wanted_by : List ℕ → List ℕ
+wanted_by option =
+    if bytes_eq option (codes "--manager") || bytes_eq option (codes "--rounds")
+    then codes "a number from 0 to 4294967295, in at most 20 digits"
+    else (if bytes_eq option (codes "--role") then codes "orchestrator or em"
+    else codes "a word that doesn't begin with -")
+
+-- a line that says of a word, quoted, that this option doesn't take it, and what it takes
+abbrev pub IsNoValueOf : List ℕ → List ℕ → Type 0
+IsNoValueOf option line = (quoted : List ℕ) × (line ≡ codes "vnfm: " ++ (quoted ++ (codes " is no value of "
+    ++ (option ++ (codes ", which takes " ++ (wanted_by option ++ codes "; vnfm --help says more\n"))))))
+
+-- a line that says so of the first two of these words, an option and what stands behind it
+abbrev pub IsAboutValue : List (List ℕ) → List ℕ → Type 0
+IsAboutValue (option ∷ value ∷ rest) line = IsNoValueOf option line
+IsAboutValue words line = line ≡ plain_line (codes "the words are no command; vnfm --help says more")
+
 -- a line that says what is wrong first with the words
 abbrev pub IsWrongLine : List (List ℕ) → Wrong → List ℕ → Type 0
 IsWrongLine words (Word place) line = IsAboutWord (codes "isn't understood; vnfm --help says more")
     (slice_get words place) line
+IsWrongLine words NotBuilt line = IsAboutWord (codes "isn't built yet; vnfm --help says which commands are")
+    (slice_get words 0) line
+IsWrongLine words (Twice place) line = IsAboutWord (codes "stands twice; vnfm --help says more")
+    (slice_get words place) line
 IsWrongLine words (NoValue place) line = IsAboutWord (codes "has no value; vnfm --help says more")
     (slice_get words place) line
+IsWrongLine words (Value place) line = IsAboutValue (drop place words) line
 IsWrongLine words NoCommand line = line ≡ plain_line (codes "a command is missing; vnfm --help says more")
 IsWrongLine words NoJournal line = line ≡ plain_line (codes "--journal PATH is missing; vnfm --help says more")
 IsWrongLine words NoManager line = line ≡ plain_line (codes "--manager N is missing; vnfm --help says more")
 IsWrongLine words Nothing line = line ≡ plain_line (codes "the words are no command; vnfm --help says more")
 
+-- what is said where there is no such folder: of an empty path that it is empty
+abbrev pub no_folder_text : Option (List ℕ) → List ℕ
+no_folder_text (Some []) = codes "the path is empty"
+no_folder_text path = codes "there is no such folder"
+
+-- what is said of a file that was lost for this cause, at this path, where there is one
+abbrev pub lost_text : WhyLost → Option (List ℕ) → List ℕ
+lost_text why.Locked path = codes "another manager holds its lock"
+lost_text why.NoFolder path = no_folder_text path
+lost_text why.NotPermitted path = codes "there is no permission to read and write it"
+lost_text why.ReadOnly path = codes "its file system is read-only"
+lost_text why.NotAFile path = codes "it is not a regular file"
+lost_text why.DanglingLink path = codes "it is a symbolic link to nothing, or was made just now by another"
+lost_text why.LinkLoop path = codes "its symbolic links form a loop, or are too many"
+lost_text why.NameTooLong path = codes "a name in the path, or all of it, is too long"
+lost_text why.NoSpace path = codes "its file system has no space left, or no inode"
+lost_text why.Quota path = codes "the quota on its file system is used up"
+lost_text why.TooLarge path = codes "it would be larger than a file may be"
+lost_text why.Memory path = codes "there was no memory"
+lost_text why.Other path = codes "a call on it failed; if its disk did, the kernel's log says how"
+
+-- the line of a descriptor that is refused, which may end being JSON there
+abbrev pub descriptor_line : Option JsonBreak → List ℕ
+descriptor_line (Some at) = codes "vnfm: the descriptor is not taken: it is no JSON from line " ++ (decimal at.line
+    ++ (codes ", column " ++ (decimal at.column ++ (codes " on; " ++ (ADVICE.now ++ codes "\n")))))
+descriptor_line None = plain_line (codes "the descriptor is not taken")
+
+-- why the bytes that were left weren't answered, by how the last hearing ended
+abbrev pub unanswered_text : Hearing → List ℕ
+unanswered_text hearing.Malformed = codes "the bytes that are left are no request"
+unanswered_text hearing.TooLarge = codes "the bytes that are left are a request beyond a limit"
+unanswered_text hearing.Unfinished = codes "the bytes that are left end inside a request"
+unanswered_text hearing.Unread = codes "standard input couldn't be read any further"
+unanswered_text hearing.NoMemory = codes "there was no memory for the request that is left"
+unanswered_text last = codes "no byte is left"
+
+-- the line of bytes that weren't answered, behind so many requests that were
+abbrev pub unanswered_line : ℕ → List ℕ → List ℕ
+unanswered_line answered text =
+    codes "vnfm: requests answered: " ++ (decimal answered ++ (codes "; " ++ (text ++ codes "\n")))
+
 -- the line of a reason, of a run with these words
 abbrev pub IsLineOf : Reason → List (List ℕ) → List ℕ → Type 0
+IsLineOf say.Illegible words line = line ≡ plain_line
+    (codes "a word isn't UTF-8, so none of them counts; vnfm --help says more")
 IsLineOf say.Words words line = IsWrongLine words (wrong_of words) line
-IsLineOf say.Locked words line = IsAboutJournal words (codes "another manager holds its lock") line
-IsLineOf say.NoFolder words line = IsAboutJournal words (codes "there is no such folder") line
-IsLineOf say.NotPermitted words line = IsAboutJournal words (codes "there is no permission to read and write it") line
-IsLineOf say.NotAFile words line = IsAboutJournal words (codes "it is not a regular file") line
-IsLineOf say.Disk words line = IsAboutJournal words (codes "the disk failed; the kernel's log says how") line
+IsLineOf (say.Lost why) words line = IsAboutJournal words (lost_text why (path_in words)) line
+IsLineOf say.NoDevice words line = line ≡ plain_line
+    (codes "/dev/null couldn't be opened, which holds the places of closed standard streams")
 IsLineOf say.Input words line = line ≡ plain_line (codes "standard input couldn't be read")
 IsLineOf say.NoJournal words line = IsAboutJournal words (codes "it is not a journal that init has finished") line
 IsLineOf say.NoMemory words line = line ≡ plain_line (codes "there was no memory")
 IsLineOf say.Output words line = line ≡ plain_line (codes "the last line couldn't be written")
 IsLineOf say.Record words line = IsAboutJournal words (codes "it has a record that is broken or isn't allowed there")
     line
-IsLineOf say.Room words line = IsAboutJournal words (codes "it has no room for the descriptor") line
-IsLineOf say.Descriptor words line = line ≡ plain_line (codes "the descriptor is not taken")
+IsLineOf say.Room words line = IsAboutJournal words (codes "it has no room for what was to be recorded") line
+IsLineOf (say.Descriptor at) words line = line ≡ descriptor_line at
 IsLineOf say.Taken words line = IsAboutJournal words (codes
     "it is a journal already, or no file of this program's; give another path, or move it away") line
 IsLineOf say.Undelivered words line = line ≡ plain_line
     (codes "the answer couldn't be delivered; what it says is recorded")
+IsLineOf say.NoRequest words line = line ≡ plain_line (codes "standard input had no request")
+IsLineOf (say.Unanswered answered last) words line = line ≡ unanswered_line answered (unanswered_text last)

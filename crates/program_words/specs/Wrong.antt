@@ -1,5 +1,5 @@
 -- What is wrong first with words that are no command (own rule, docs/FORMATS.md).
-use Rattle.std.specs.Prelude.{◌+◌, ◌&&◌, not, List, [], ◌∷◌, ◌++◌, codes, length, if◌then◌else◌, Bool, true, false}
+use Rattle.std.specs.Prelude.{◌&&◌, not, List, [], ◌∷◌, ◌++◌, codes, length, if◌then◌else◌, Bool, true, false}
 use Rattle.std.specs.Prelude.{Option, Some, None}
 use Rattle.std.specs.List.{list_any}
 use Rattle.std.specs.Str.{bytes_eq}
@@ -7,8 +7,8 @@ use Rattle.command_line.specs.Words.{Word as Bytes, command_named, options_of, t
 use Rattle.command_line.specs.declared.options.Command.{Command}
 use Rattle.command_line.specs.declared.options.Command.TheVariants.{Init, Onboard, Once}
 use Rattle.program_words.specs.declared.wrong.Wrong.{Wrong}
-use Rattle.program_words.specs.declared.wrong.Wrong.TheVariants.{Word, NoCommand, NoValue, NoJournal, NoManager}
-use Rattle.program_words.specs.declared.wrong.Wrong.TheVariants.{Nothing}
+use Rattle.program_words.specs.declared.wrong.Wrong.TheVariants.{Word, NotBuilt, Twice, NoCommand, NoValue, Value}
+use Rattle.program_words.specs.declared.wrong.Wrong.TheVariants.{NoJournal, NoManager, Nothing}
 
 -- the word is among these
 abbrev pub is_among : List Bytes → Bytes → Bool
@@ -30,21 +30,30 @@ wrong_at_end command words =
     if not (is_among words (codes "--journal")) then NoJournal
     else (if needs_manager command && not (is_among words (codes "--manager")) then NoManager else Nothing)
 
+-- what is wrong with a word that is no new option: it stands twice, or is none of the command's
+abbrev pub misplaced : Command → List Bytes → Bytes → Wrong
+misplaced command before word = if is_among (options_of command) word then Twice (length before)
+    else Word (length before)
+
 -- what is wrong first behind these words: a word that is no option or stands before, an option without a value, or with
 -- one that it doesn't take; or what is wrong where the words end
 abbrev pub wrong_behind : Command → List Bytes → List Bytes → Wrong
 wrong_behind command before [] = wrong_at_end command before
 wrong_behind command before (option ∷ []) = if is_new command before option then NoValue (length before)
-    else Word (length before)
+    else misplaced command before option
 wrong_behind command before (option ∷ value ∷ rest) =
     if is_new command before option
     then (if takes command (option, value) then wrong_behind command (before ++ option ∷ value ∷ []) rest
-    else Word (length before + 1))
-    else Word (length before)
+    else Value (length before))
+    else misplaced command before option
+
+-- the usage line names a command so that isn't built yet
+abbrev pub is_unbuilt : Bytes → Bool
+is_unbuilt name = is_among (codes "serve" ∷ codes "check" ∷ codes "trial" ∷ []) name
 
 -- what is wrong first behind the name of a command, if it is one
 abbrev pub wrong_of_command : Option Command → Bytes → List Bytes → Wrong
-wrong_of_command None name rest = Word 0
+wrong_of_command None name rest = if is_unbuilt name then NotBuilt else Word 0
 wrong_of_command (Some command) name rest = wrong_behind command (name ∷ []) rest
 
 -- what is wrong first with the words

@@ -40,7 +40,7 @@ how it went:
     0  journal made for manager N
     0  onboarded ID: V vdus, A aspects, L levels
     0  done after N rounds      the requests were answered, with a refusal too
-    2  usage: ..                the words are no command
+    2  usage: ..                the words are no command; serve, check and trial, which it names, aren't built yet
     3  site fault               a disk call failed
     4  door fault               there was no connection, or the descriptor couldn't be read
     5  no journal               the file at PATH is unfinished
@@ -70,7 +70,10 @@ const ONBOARD: &str =
 
     vnfm onboard --journal journal <examples/vnfd.json
 
-PATH is a journal that init made. The descriptor is read to its end, of at most 1048576 bytes.
+PATH is a journal that init made. The descriptor is read to its end, of at most 1048576 bytes. It is JSON in UTF-8 with
+no byte order mark. YAML isn't read; with PyYAML, JSON is made of it by
+
+    python3 -c 'import json, sys, yaml; json.dump(yaml.safe_load(sys.stdin), sys.stdout, default=str)' <FILE.yaml
 ";
 
 /// What `once --help` prints.

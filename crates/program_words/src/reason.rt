@@ -1,32 +1,35 @@
 //! Why a run ended as it did, for a person.
-ghost use Rattle.std.specs.Prelude.{◌≡◌, ◌++◌, IfOk, Some, codes, drop, option_map, slice_get};
+ghost use Rattle.std.specs.Prelude.{◌≡◌, ◌++◌, IfOk, Some, codes, decimal, drop, option_map, slice_get};
 ghost use Rattle.std.specs.String.{string_bytes};
-ghost use Rattle.command_line.specs.Words.{value_in};
-ghost use Rattle.program_words.specs.Lines.{IsAboutJournal, IsAboutWord, IsLineOf, IsLineOn, IsWrongLine, plain_line};
-ghost use Rattle.program_words.specs.Reasons.{lost_reason, reason_of};
+ghost use Rattle.program_words.specs.Lines.{IsAboutJournal, IsAboutValue, IsAboutWord, IsLineOf, IsLineOn};
+ghost use Rattle.program_words.specs.Lines.{IsNoValueOf, IsWrongLine, lost_text, no_folder_text, path_in, plain_line};
+ghost use Rattle.program_words.specs.Lines.{descriptor_line, unanswered_line, unanswered_text, wanted_by};
+ghost use Rattle.program_words.specs.Reasons.{delivery_reason, hearing_reason, lost_reason, reason_of};
 ghost use Rattle.program_words.specs.Wrong.{wrong_of};
 
 use crate::wrong::{Wrong, wrong_of};
 use command_line::value_of;
 use outside_edges::WhyLost;
+use served_account::{Account, Hearing, JsonBreak};
 use std::alloc::{AllocError, Global};
 use vnfm_base::Text;
+
+/// What a descriptor that is no JSON may be, and how JSON is made of it.
+const ADVICE: &str =
+    "no byte order mark may stand in front, and YAML isn't read, of which JSON is made by \
+    python3 -c 'import json, sys, yaml; json.dump(yaml.safe_load(sys.stdin), sys.stdout, default=str)'";
 
 /// Why a run ended as it did, where there is something to say.
 #[derive(Clone, Copy)]
 pub enum Reason {
+    /// The words couldn't be read.
+    Illegible,
     /// A word wasn't understood, or some are missing.
     Words,
-    /// Another manager holds the journal's lock.
-    Locked,
-    /// There is no such folder.
-    NoFolder,
-    /// The journal may not be read or written.
-    NotPermitted,
-    /// What stands at the path is no regular file.
-    NotAFile,
-    /// The disk failed.
-    Disk,
+    /// The journal's file couldn't be had, or a call on it failed, for this cause.
+    Lost(WhyLost),
+    /// The null device couldn't be opened, and so no file was.
+    NoDevice,
     /// Standard input couldn't be read.
     Input,
     /// No journal stands at the path.
@@ -39,28 +42,37 @@ pub enum Reason {
     Record,
     /// The journal has no room.
     Room,
-    /// The descriptor was refused.
-    Descriptor,
+    /// The descriptor was refused; where it ends being JSON, if it does.
+    Descriptor(Option<JsonBreak>),
     /// The file isn't one that `init` takes.
     Taken,
     /// The answer couldn't be delivered.
     Undelivered,
+    /// Standard input had no request.
+    NoRequest,
+    /// So many requests were answered, and the bytes behind them weren't.
+    Unanswered {
+        /// How many.
+        answered: u64,
+        /// How the last hearing ended.
+        last: Hearing,
+    },
 }
 
-/// What is to be said of a run with this status, by why the file was lost, and whether the answer was.
+/// What is to be said of a run with this status, by why the file was lost, whether the answer was, and what was heard
+/// and answered.
 ///
 /// Source: own rule, docs/FORMATS.md, "The program".
-pub fn reason_of(status: u8, lost: Option<WhyLost>, undelivered: bool) -> Option<Reason>
-    ensures { result ≡ reason_of status lost undelivered }
+pub fn reason_of(
+    status: u8,
+    lost: Option<WhyLost>,
+    undelivered: bool,
+    account: Account,
+) -> Option<Reason>
+    ensures { result ≡ reason_of status lost undelivered account }
 {
     match status {
-        0 => {
-            if undelivered {
-                Some(Reason::Undelivered)
-            } else {
-                None
-            }
-        }
+        0 => delivery_reason(undelivered, account),
         2 => Some(Reason::Words),
         3 => Some(lost_reason(lost)),
         4 => Some(Reason::Input),
@@ -69,9 +81,41 @@ pub fn reason_of(status: u8, lost: Option<WhyLost>, undelivered: bool) -> Option
         7 => Some(Reason::Output),
         8 => Some(Reason::Record),
         9 => Some(Reason::Room),
-        10 => Some(Reason::Descriptor),
+        10 => Some(Reason::Descriptor(account.broken)),
         11 => Some(Reason::Taken),
         _ => None,
+    }
+}
+
+/// What is to be said of a run that did its work.
+fn delivery_reason(undelivered: bool, account: Account) -> Option<Reason>
+    ensures { result ≡ delivery_reason undelivered account }
+{
+    if undelivered {
+        Some(Reason::Undelivered)
+    } else {
+        hearing_reason(account.answered, account.last)
+    }
+}
+
+/// What is to be said where so many requests were answered, by how the last hearing ended.
+fn hearing_reason(answered: u64, last: Hearing) -> Option<Reason>
+    ensures { result ≡ hearing_reason answered last }
+{
+    match last {
+        Hearing::NotYet | Hearing::Request => None,
+        Hearing::End => {
+            if answered == 0 {
+                Some(Reason::NoRequest)
+            } else {
+                None
+            }
+        }
+        Hearing::Malformed
+        | Hearing::TooLarge
+        | Hearing::Unfinished
+        | Hearing::Unread
+        | Hearing::NoMemory => Some(Reason::Unanswered { answered, last }),
     }
 }
 
@@ -80,13 +124,8 @@ fn lost_reason(lost: Option<WhyLost>) -> Reason
     ensures { result ≡ lost_reason lost }
 {
     match lost {
-        Some(WhyLost::Locked) => Reason::Locked,
-        Some(WhyLost::NoFolder) => Reason::NoFolder,
-        Some(WhyLost::NotPermitted) => Reason::NotPermitted,
-        Some(WhyLost::NotAFile) => Reason::NotAFile,
-        Some(WhyLost::Memory) => Reason::NoMemory,
-        Some(WhyLost::Other) => Reason::Disk,
-        None => Reason::Disk,
+        Some(why) => Reason::Lost(why),
+        None => Reason::NoDevice,
     }
 }
 
@@ -99,19 +138,15 @@ impl Reason {
         ensures { IfOk result (λ line. IsLineOf self words.now (string_bytes line)) }
     {
         match self {
-            Reason::Words => wrong_line(alloc, words),
-            Reason::Locked => about_journal(alloc, words, "another manager holds its lock"),
-            Reason::NoFolder => about_journal(alloc, words, "there is no such folder"),
-            Reason::NotPermitted => about_journal(
+            Reason::Illegible => plain(
                 alloc,
-                words,
-                "there is no permission to read and write it",
+                "a word isn't UTF-8, so none of them counts; vnfm --help says more",
             ),
-            Reason::NotAFile => about_journal(alloc, words, "it is not a regular file"),
-            Reason::Disk => about_journal(
+            Reason::Words => wrong_line(alloc, words),
+            Reason::Lost(why) => about_journal(alloc, words, lost_text(why, path_in(words))),
+            Reason::NoDevice => plain(
                 alloc,
-                words,
-                "the disk failed; the kernel's log says how",
+                "/dev/null couldn't be opened, which holds the places of closed standard streams",
             ),
             Reason::Input => plain(alloc, "standard input couldn't be read"),
             Reason::NoJournal => about_journal(
@@ -126,8 +161,12 @@ impl Reason {
                 words,
                 "it has a record that is broken or isn't allowed there",
             ),
-            Reason::Room => about_journal(alloc, words, "it has no room for the descriptor"),
-            Reason::Descriptor => plain(alloc, "the descriptor is not taken"),
+            Reason::Room => about_journal(
+                alloc,
+                words,
+                "it has no room for what was to be recorded",
+            ),
+            Reason::Descriptor(at) => descriptor_line(alloc, at),
             Reason::Taken => about_journal(
                 alloc,
                 words,
@@ -137,7 +176,90 @@ impl Reason {
                 alloc,
                 "the answer couldn't be delivered; what it says is recorded",
             ),
+            Reason::NoRequest => plain(alloc, "standard input had no request"),
+            Reason::Unanswered { answered, last } => {
+                unanswered_line(alloc, answered, unanswered_text(last))
+            }
         }
+    }
+}
+
+/// The line of a descriptor that is refused.
+fn descriptor_line(alloc: Global, at: Option<JsonBreak>) -> Result<String, AllocError>
+    ensures { IfOk result (λ line. string_bytes line ≡ descriptor_line at) }
+{
+    match at {
+        Some(JsonBreak { line, column }) => broken_line(alloc, line, column, ADVICE),
+        None => plain(alloc, "the descriptor is not taken"),
+    }
+}
+
+/// The line of a descriptor that ends being JSON there.
+fn broken_line(
+    alloc: Global,
+    line: usize,
+    column: usize,
+    advice: &str,
+) -> Result<String, AllocError>
+    ensures { IfOk result (λ text. string_bytes text
+        ≡ codes "vnfm: the descriptor is not taken: it is no JSON from line " ++ (decimal line
+        ++ (codes ", column " ++ (decimal column ++ (codes " on; " ++ (advice.now ++ codes "\n")))))) }
+{
+    format!(in alloc;
+        "vnfm: the descriptor is not taken: it is no JSON from line {line}, column {column} on; {advice}\n"
+    )
+}
+
+/// The line of bytes that weren't answered.
+fn unanswered_line(alloc: Global, answered: u64, text: &str) -> Result<String, AllocError>
+    ensures { IfOk result (λ line. string_bytes line ≡ unanswered_line answered text.now) }
+{
+    format!(in alloc; "vnfm: requests answered: {answered}; {text}\n")
+}
+
+/// Why the bytes that were left weren't answered, by how the last hearing ended.
+fn unanswered_text(last: Hearing) -> &'static str
+    ensures { result.now ≡ unanswered_text last }
+{
+    match last {
+        Hearing::Malformed => "the bytes that are left are no request",
+        Hearing::TooLarge => "the bytes that are left are a request beyond a limit",
+        Hearing::Unfinished => "the bytes that are left end inside a request",
+        Hearing::Unread => "standard input couldn't be read any further",
+        Hearing::NoMemory => "there was no memory for the request that is left",
+        Hearing::NotYet | Hearing::Request | Hearing::End => "no byte is left",
+    }
+}
+
+/// What is said of a file that was lost for this cause, at this path, where there is one.
+fn lost_text(why: WhyLost, path: Option<&Text>) -> &'static str
+    ensures { result.now ≡ lost_text why (option_map (λ path. path.now) path.entry) }
+{
+    match why {
+        WhyLost::Locked => "another manager holds its lock",
+        WhyLost::NoFolder => no_folder_text(path),
+        WhyLost::NotPermitted => "there is no permission to read and write it",
+        WhyLost::ReadOnly => "its file system is read-only",
+        WhyLost::NotAFile => "it is not a regular file",
+        WhyLost::DanglingLink =>
+            "it is a symbolic link to nothing, or was made just now by another",
+        WhyLost::LinkLoop => "its symbolic links form a loop, or are too many",
+        WhyLost::NameTooLong => "a name in the path, or all of it, is too long",
+        WhyLost::NoSpace => "its file system has no space left, or no inode",
+        WhyLost::Quota => "the quota on its file system is used up",
+        WhyLost::TooLarge => "it would be larger than a file may be",
+        WhyLost::Memory => "there was no memory",
+        WhyLost::Other => "a call on it failed; if its disk did, the kernel's log says how",
+    }
+}
+
+/// What is said where there is no such folder: of an empty path that it is empty.
+fn no_folder_text(path: Option<&Text>) -> &'static str
+    ensures { result.now ≡ no_folder_text (option_map (λ path. path.now) path.entry) }
+{
+    match path {
+        Some(path) if path.as_str() == "" => "the path is empty",
+        _ => "there is no such folder",
     }
 }
 
@@ -182,7 +304,7 @@ fn about_journal(alloc: Global, words: &[Text], text: &str) -> Result<String, Al
 
 /// The journal's path, where the words name one.
 fn path_in(words: &[Text]) -> Option<&Text>
-    ensures { option_map (λ path. path.now) result ≡ value_in (codes "--journal") (drop 1 words.entry.now) }
+    ensures { option_map (λ path. path.now) result ≡ path_in words.entry.now }
 {
     match words {
         [] => None,
@@ -201,6 +323,18 @@ fn wrong_line(alloc: Global, words: &[Text]) -> Result<String, AllocError>
             place,
             "isn't understood; vnfm --help says more",
         ),
+        Wrong::NotBuilt => word_line(
+            alloc,
+            words,
+            0,
+            "isn't built yet; vnfm --help says which commands are",
+        ),
+        Wrong::Twice(place) => word_line(
+            alloc,
+            words,
+            place,
+            "stands twice; vnfm --help says more",
+        ),
         Wrong::NoCommand => plain(alloc, "a command is missing; vnfm --help says more"),
         Wrong::NoValue(place) => word_line(
             alloc,
@@ -208,6 +342,7 @@ fn wrong_line(alloc: Global, words: &[Text]) -> Result<String, AllocError>
             place,
             "has no value; vnfm --help says more",
         ),
+        Wrong::Value(place) => value_line(alloc, words, place),
         Wrong::NoJournal => plain(alloc, "--journal PATH is missing; vnfm --help says more"),
         Wrong::NoManager => plain(alloc, "--manager N is missing; vnfm --help says more"),
         Wrong::Nothing => plain(alloc, "the words are no command; vnfm --help says more"),
@@ -221,5 +356,59 @@ fn word_line(alloc: Global, words: &[Text], place: usize, text: &str) -> Result<
     match words.get(place) {
         Some(word) => line_on(alloc, word, " ", text),
         None => plain(alloc, "the words are no command; vnfm --help says more"),
+    }
+}
+
+/// The line of a value that its option at this place doesn't take.
+fn value_line(alloc: Global, words: &[Text], place: usize) -> Result<String, AllocError>
+    ensures { IfOk result (λ line. IsAboutValue (drop place words.now) (string_bytes line)) }
+{
+    match words.get(place..) {
+        Some(behind) => first_value_line(alloc, behind),
+        None => first_value_line(alloc, &[]),
+    }
+}
+
+/// The line of a value that the option in front of it doesn't take, which are the first two of these words.
+fn first_value_line(alloc: Global, words: &[Text]) -> Result<String, AllocError>
+    ensures { IfOk result (λ line. IsAboutValue words.now (string_bytes line)) }
+{
+    match words {
+        [option, value, ..] => refused_value(alloc, option, value),
+        _ => plain(alloc, "the words are no command; vnfm --help says more"),
+    }
+}
+
+/// The line of a value that this option doesn't take.
+fn refused_value(alloc: Global, option: &Text, value: &Text) -> Result<String, AllocError>
+    ensures { IfOk result (λ line. IsNoValueOf option.now (string_bytes line)) }
+{
+    let quoted = quoted(alloc, value)?;
+    refusal(
+        alloc,
+        quoted.as_str(),
+        option.as_str(),
+        wanted_by(option.as_str()),
+    )
+}
+
+/// The line of these three.
+fn refusal(alloc: Global, quoted: &str, option: &str, wanted: &str) -> Result<String, AllocError>
+    ensures { IfOk result (λ line. string_bytes line ≡ codes "vnfm: " ++ (quoted.now ++ (codes " is no value of "
+        ++ (option.now ++ (codes ", which takes " ++ (wanted.now ++ codes "; vnfm --help says more\n")))))) }
+{
+    format!(in alloc;
+        "vnfm: {quoted} is no value of {option}, which takes {wanted}; vnfm --help says more\n"
+    )
+}
+
+/// What an option takes.
+fn wanted_by(option: &str) -> &'static str
+    ensures { result.now ≡ wanted_by option.now }
+{
+    match option {
+        "--manager" | "--rounds" => "a number from 0 to 4294967295, in at most 20 digits",
+        "--role" => "orchestrator or em",
+        _ => "a word that doesn't begin with -",
     }
 }

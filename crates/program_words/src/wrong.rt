@@ -1,6 +1,7 @@
 //! Which word isn't understood.
 ghost use Rattle.std.specs.Prelude.{◌≡◌, ◌≤◌, drop, length, take};
-ghost use Rattle.program_words.specs.Wrong.{is_among, is_new, needs_manager, wrong_at_end, wrong_behind, wrong_of};
+ghost use Rattle.program_words.specs.Wrong.{is_among, is_new, is_unbuilt, misplaced, needs_manager, wrong_at_end};
+ghost use Rattle.program_words.specs.Wrong.{wrong_behind, wrong_of};
 
 use command_line::{Command, command_named, has_option, takes};
 use vnfm_base::Text;
@@ -10,10 +11,16 @@ use vnfm_base::Text;
 pub enum Wrong {
     /// The word at this place, from 0, isn't understood there.
     Word(usize),
+    /// The first word is a command that isn't built yet.
+    NotBuilt,
+    /// The option at this place, from 0, stands before it too.
+    Twice(usize),
     /// There is no command.
     NoCommand,
     /// The option at this place, from 0, has no value.
     NoValue(usize),
+    /// The option at this place, from 0, doesn't take the value behind it.
+    Value(usize),
     /// `--journal` and a path are missing.
     NoJournal,
     /// `--manager` and a number are missing.
@@ -33,8 +40,22 @@ pub fn wrong_of(words: &[Text]) -> Wrong
     };
     match command_named(name) {
         Some(command) => wrong_behind(command, words),
-        None => Wrong::Word(0),
+        None => {
+            if is_unbuilt(name) {
+                Wrong::NotBuilt
+            } else {
+                Wrong::Word(0)
+            }
+        }
     }
+}
+
+/// Whether the usage line names a command so that isn't built yet.
+fn is_unbuilt(name: &Text) -> bool
+    ensures { result ≡ is_unbuilt name.now }
+{
+    let name = name.as_str();
+    name == "serve" || name == "check" || name == "trial"
 }
 
 /// What is wrong first behind a command's name, which is the first word.
@@ -45,10 +66,10 @@ fn wrong_behind(command: Command, words: &[Text]) -> Wrong
     let mut at = 1;
     while let [option, value, ..] = &words[at..] {
         if !is_new(command, &words[..at], option) {
-            return Wrong::Word(at);
+            return misplaced(command, &words[..at], option);
         }
         if !takes(command, option, value) {
-            return Wrong::Word(at + 1);
+            return Wrong::Value(at);
         }
         at += 2;
     }
@@ -58,7 +79,7 @@ fn wrong_behind(command: Command, words: &[Text]) -> Wrong
             if is_new(command, &words[..at], option) {
                 Wrong::NoValue(at)
             } else {
-                Wrong::Word(at)
+                misplaced(command, &words[..at], option)
             }
         }
     }
@@ -92,6 +113,17 @@ fn is_new(command: Command, before: &[Text], word: &Text) -> bool
     ensures { result ≡ is_new command before.now word.now }
 {
     has_option(command, word.as_str()) && !is_among(before, word.as_str())
+}
+
+/// What is wrong with a word that is no new option behind these.
+fn misplaced(command: Command, before: &[Text], word: &Text) -> Wrong
+    ensures { result ≡ misplaced command before.now word.now }
+{
+    if has_option(command, word.as_str()) {
+        Wrong::Twice(before.len())
+    } else {
+        Wrong::Word(before.len())
+    }
 }
 
 /// Whether the word is among these.
