@@ -1,5 +1,5 @@
 -- From what a part of the program did to what the program did.
-use Rattle.std.proofs.Common.{◌≡◌, ◌⊎◌, ℕ, List, Option, None, Result, Ok, Err, IfErr, inl, inr, sym, subst}
+use Rattle.std.proofs.Common.{◌≡◌, ◌⊎◌, ℕ, Bool, true, false, List, Option, None, Result, Ok, Err, IfErr, inl, inr, sym, subst}
 use Rattle.host_calls.specs.Files.{FilesState, Hold}
 use Rattle.lcm_mouth.specs.Mouth.{MouthState}
 use Rattle.outside_edges.specs.Having.{LeavesAll, Seeks}
@@ -16,7 +16,7 @@ use Rattle.command_line.specs.declared.options.Settings.{Settings}
 use Rattle.command_line.specs.declared.options.SettingsFault.{SettingsFault}
 use Rattle.command_line.specs.declared.options.SettingsFault.TheVariants.{Usage}
 use Rattle.vnfm_program.specs.Program.{Goes, Machine, Meaning, Obeys, ObeysOrStarves, Objects, Opens, Performs, Scene, SpeaksOnError}
-use Rattle.vnfm_program.specs.Program.{SpeaksOnOutput, Starts, answers, folder_of, is_told_on_error}
+use Rattle.vnfm_program.specs.Program.{SpeaksOnOutput, Starts, TellsIllegible, answers, folder_of, is_told_on_error}
 
 -- a file that is the one at this path is the one that the settings name
 pub held_as : {F : Type 0} (state : F → SiteState) (hold : F → Hold) (settings : Settings) (path : List ℕ) (folder : FolderSync)
@@ -80,9 +80,15 @@ module _ {N H F J : Type 0} where
         (record { mouth = after; machine = b.machine })) (sym sets) performs;
   }
 
-  -- words that ask for no page are obeyed
-  pub went : (g : Meaning N H F) (given words : List (List ℕ)) (status : ℕ) (a b : Objects N H F J)
-      → given ≡ words → page_of given ≡ None → ObeysOrStarves g given status a b → Starts g words status a b
-  went g given words status a b same none obeys =
-      subst (λ (ws : List (List ℕ)). Starts g ws status a b) same (subst (λ (page : Option Page). Goes g page given status a b)
-      (sym none) obeys)
+  -- words that could be read and ask for no page are obeyed
+  pub went : (g : Meaning N H F) (legible : Bool) (given words : List (List ℕ)) (status : ℕ) (a b : Objects N H F J)
+      → legible ≡ true → given ≡ words → page_of given ≡ None → ObeysOrStarves g given status a b → Starts g legible words status a b
+  went g legible given words status a b read same none obeys =
+      subst (λ (l : Bool). Starts g l words status a b) (sym read) (
+      subst (λ (ws : List (List ℕ)). Starts g true ws status a b) same (subst (λ (page : Option Page). Goes g page given status a b)
+      (sym none) obeys))
+
+  -- words that couldn't be read are told of as that
+  pub unread : (g : Meaning N H F) (legible : Bool) (words : List (List ℕ)) (status : ℕ) (a b : Objects N H F J)
+      → legible ≡ false → TellsIllegible g status a b → Starts g legible words status a b
+  unread g legible words status a b none told = subst (λ (l : Bool). Starts g l words status a b) (sym none) told

@@ -1,5 +1,5 @@
 -- What the program does (own rule, docs/FORMATS.md).
-use Rattle.std.specs.Prelude.{◌≡◌, ◌⊎◌, ◌+◌, ℕ, List, Bool, true, false, Option, Some, None, Result, Ok}
+use Rattle.std.specs.Prelude.{◌≡◌, ◌⊎◌, ◌+◌, ℕ, List, [], Bool, true, false, Option, Some, None, Result, Ok}
 use Rattle.std.specs.declared.alloc.AllocError.{AllocError}
 use Rattle.command_line.specs.Words.{settings_of}
 use Rattle.command_line.specs.declared.options.Command.{Command}
@@ -20,6 +20,7 @@ use Rattle.program_words.specs.Pages.{page_of}
 use Rattle.program_words.specs.Reasons.{reason_of}
 use Rattle.program_words.specs.declared.page.Page.{Page}
 use Rattle.program_words.specs.declared.reason.Reason.{Reason}
+use Rattle.program_words.specs.declared.reason.Reason.TheVariants.{Illegible}
 use Rattle.site_traits.specs.Site.{SiteState}
 use Rattle.standard_streams.specs.Numbers.{AreHeld, Numbers}
 use Rattle.vnfm_cli.specs.Promises.{Ground, Promises}
@@ -103,7 +104,7 @@ module _ {N H F J : Type 0} where
 
   -- what is to be said of a run with this status that left this
   abbrev pub reason_at : ℕ → Scene N H F J → Option Reason
-  reason_at status a = reason_of status a.machine.site.why (is_undelivered a.mouth)
+  reason_at status a = reason_of status a.machine.site.why (is_undelivered a.mouth) a.mouth.account
 
   -- the device and the files are as they were
   pub record OpensNoMore (a b : Machine N H F J) : Type 0 where
@@ -207,6 +208,24 @@ module _ {N H F J : Type 0} where
   Goes g None words status a b = ObeysOrStarves g words status a b
   Goes g (Some page) words status a b = IsPrinted g page status a b ⊎ IsStarved g status a b
 
-  -- what is done with these words
-  abbrev pub Starts : Meaning N H F → List (List ℕ) → ℕ → Objects N H F J → Objects N H F J → Type 0
-  Starts g words status a b = Goes g (page_of words) words status a b
+  -- The words couldn't be read, so there are none, which is no command: one run of none, with its line to standard
+  -- output, and behind it that was said on standard error.
+  pub record IsIllegible (g : Meaning N H F) (status : ℕ) (a b : Objects N H F J) : Type 0 where
+    pub before : MouthState
+    pub after : MouthState
+    pub has_mouth : a.mouth ≡ Ok before
+    pub mouth : b.mouth ≡ Ok after
+    pub promises : Promises g.outside g.lines [] status
+        (ground g (record { mouth = before; machine = a.machine }) a.machine.lines)
+        (ground g (record { mouth = after; machine = b.machine }) b.machine.lines)
+    pub explains : Explains g.errors (Some Illegible) [] a.machine.errors b.machine.errors
+    pub kept : OpensNoMore a.machine b.machine
+
+  -- the same, or there was no memory
+  abbrev pub TellsIllegible : Meaning N H F → ℕ → Objects N H F J → Objects N H F J → Type 0
+  TellsIllegible g status a b = IsIllegible g status a b ⊎ IsStarved g status a b
+
+  -- what is done with these words, which could be read or not
+  abbrev pub Starts : Meaning N H F → Bool → List (List ℕ) → ℕ → Objects N H F J → Objects N H F J → Type 0
+  Starts g true words status a b = Goes g (page_of words) words status a b
+  Starts g false words status a b = TellsIllegible g status a b

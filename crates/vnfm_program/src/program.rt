@@ -6,12 +6,12 @@ ghost use Rattle.program_words.specs.Pages.{page_of};
 ghost use Rattle.program_words.specs.Reasons.{reason_of};
 ghost use Rattle.vnfm_commands.specs.Outside.{telling};
 ghost use Rattle.vnfm_program.specs.Program.{ObeysOrStarves, Performs, SpeaksOnError, SpeaksOnOutput, Starts, answers};
-ghost use Rattle.vnfm_program.specs.Program.{folder_of, is_undelivered};
-ghost use Rattle.vnfm_program.specs.Words.{words_in};
+ghost use Rattle.vnfm_program.specs.Program.{TellsIllegible, folder_of, is_undelivered};
+ghost use Rattle.vnfm_program.specs.Words.{are_legible, words_in};
 
 use crate::machine::Machine;
 use crate::output::{explain, print, starve};
-use crate::words::words_of;
+use crate::words::{WordsFault, words_of};
 use host_calls::{HostFile, HostFiles, InStream, OutStream};
 use lcm_mouth::Mouth;
 use outside_edges::{FolderSync, Jobs, RealDoor, RealSite};
@@ -32,12 +32,13 @@ use vnfm_cli::{Command, Settings, SettingsFault, run, settings};
 ///   and is then obeyed by one run over that file, the mouth, the orchestrator, the courier and the clock: `run` says
 ///   what it does there, and its status. `init` syncs the file's folder each time. Where the numbers can't be taken no
 ///   file is opened, and the run is over `site` as it is.
-/// - Words that are no command open nothing, and are run over `site` as it is, which gives 2.
+/// - Words that are no command open nothing, and are run over `site` as it is, which gives 2. So it is where the words
+///   can't be read, as where one isn't UTF-8, which is said then.
 /// - The run's line goes to `errors` for `once`, and to `lines` for all others. Behind the run nothing is called but
 ///   `errors`: it gets the one line that says why the run ended so, where there is something to say and memory for it.
 /// - Want of memory for the words, the mouth, the settings or to open the file is said on `errors`: 6.
 ///
-/// `arguments` are those of `env::args`: the program's name, and the words. Where they can't be had there are no words.
+/// `arguments` are those of `env::args`: the program's name, and the words.
 /// Source: own rule, docs/FORMATS.md, "The program".
 pub fn start<
     N: NullDevice,
@@ -69,17 +70,68 @@ where
       state = H.File.state;
       hold = H.File.hold;
     })
-        (words_in arguments) result (record { mouth = mouth.old; machine = machine.old })
+        (are_legible arguments) (words_in arguments) result
+        (record { mouth = mouth.old; machine = machine.old })
         (record { mouth = mouth.new; machine = machine.new }) }
     ensures memory { IfErr arguments (λ fault. error_kind fault ≡ ErrorKind.OutOfMemory → result ≡ 6) }
 {
-    let Ok(words) = words_of(alloc, arguments) else {
-        return starve(&mut machine.errors);
+    let words = match words_of(alloc, arguments) {
+        Ok(words) => words,
+        Err(WordsFault::Illegible) => return tell_illegible(alloc, mouth, machine),
+        Err(WordsFault::Memory) => return starve(&mut machine.errors),
     };
     match page_of(&words) {
         Some(page) => print(page, &mut machine.lines),
         None => command(alloc, &words, mouth, machine),
     }
+}
+
+/// Runs without words, which is no command, and says that they couldn't be read.
+fn tell_illegible<
+    N: NullDevice,
+    H: HostFiles,
+    J: Jobs<H::File> + Drop,
+    I: InStream,
+    O: OutStream,
+    Q: Orchestrator,
+    C: Courier,
+    K: Clock,
+    L: Sink,
+    E: Sink,
+>(
+    alloc: Global,
+    mouth: &mut Result<Mouth<RealDoor<I, O>>, AllocError>,
+    machine: &mut Machine<N, H, J, Q, C, K, L, E>,
+) -> u8
+    ensures { TellsIllegible (record {
+      device_tells = N.tells;
+      files_tells = H.tells;
+      outside = telling H.File.tells (I.tells × O.tells) Q.tells C.tells K.tells;
+      lines = L.tells;
+      errors = E.tells;
+      numbers = N.numbers;
+      places = H.state;
+      state = H.File.state;
+      hold = H.File.hold;
+    })
+        result (record { mouth = mouth.old; machine = machine.old })
+        (record { mouth = mouth.new; machine = machine.new }) }
+{
+    let Ok(mouth) = mouth else {
+        return starve(&mut machine.errors);
+    };
+    let status = run(
+        alloc,
+        &[],
+        &mut machine.site,
+        mouth,
+        &mut machine.orchestrator,
+        &mut machine.courier,
+        &mut machine.clock,
+        &mut machine.lines,
+    );
+    explain(alloc, &[], Some(Reason::Illegible), &mut machine.errors);
+    status
 }
 
 /// Obeys words that ask for no page.
@@ -334,9 +386,9 @@ fn reason<F: HostFile + Drop, J: Jobs<F> + Drop, I: InStream, O: OutStream>(
     site: &RealSite<F, J>,
     mouth: &Mouth<RealDoor<I, O>>,
 ) -> Option<Reason>
-    ensures { result ≡ reason_of status site.now.why (is_undelivered mouth.now) }
+    ensures { result ≡ reason_of status site.now.why (is_undelivered mouth.now) mouth.now.account }
 {
-    reason_of(status, site.why(), is_undelivered(mouth))
+    reason_of(status, site.why(), is_undelivered(mouth), mouth.account())
 }
 
 /// Whether a write on the connection failed.

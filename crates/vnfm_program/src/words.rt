@@ -1,8 +1,8 @@
 //! The words of the command line.
-ghost use Rattle.std.specs.Prelude.{◌≡◌, IfErr, IfOk, IsErr};
+ghost use Rattle.std.specs.Prelude.{◌≡◌, IfErr, IfOk, Err, false, true};
 ghost use Rattle.std.specs.IoError.{error_kind};
 ghost use Rattle.command_line.specs.Words.{settings_of};
-ghost use Rattle.vnfm_program.specs.Words.{words_in};
+ghost use Rattle.vnfm_program.specs.Words.{are_legible, words_in};
 
 use std::alloc::{AllocError, Global};
 use std::env::Args;
@@ -11,18 +11,39 @@ use std::io::ErrorKind;
 use vnfm_base::Text;
 use vnfm_cli::{Settings, SettingsFault, settings};
 
-/// The words behind the program's name. Where the arguments can't be had, as where one isn't UTF-8, there are none,
-/// which is no command.
+/// Why there are no words.
+#[derive(Clone, Copy)]
+pub enum WordsFault {
+    /// The arguments can't be read, as where one isn't UTF-8.
+    Illegible,
+    /// There is no memory for them.
+    Memory,
+}
+
+impl From<AllocError> for WordsFault {
+    ghost use Rattle.vnfm_program.specs.declared.words.WordsFault.TheVariants.{Memory};
+
+    ghost from_gives = { λ _ fault. fault ≡ Memory };
+
+    fn from(_: AllocError) -> WordsFault {
+        WordsFault::Memory
+    }
+}
+
+/// The words behind the program's name.
 ///
-/// Its one refusal is want of memory.
-pub fn words_of(alloc: Global, arguments: io::Result<Args>) -> Result<Vec<Text>, AllocError>
+/// Refusals: `Illegible`, exactly where the arguments can't be had though there is memory; `Memory`.
+pub fn words_of(alloc: Global, arguments: io::Result<Args>) -> Result<Vec<Text>, WordsFault>
     ensures words { IfOk result (λ words. words.items ≡ words_in arguments) }
-    ensures memory { IfErr arguments (λ fault. error_kind fault ≡ ErrorKind.OutOfMemory → IsErr result) }
+    ensures legible { IfOk result (λ words. are_legible arguments ≡ true) }
+    ensures illegible { result ≡ Err WordsFault.Illegible → are_legible arguments ≡ false }
+    ensures memory { IfErr arguments (λ fault. error_kind fault ≡ ErrorKind.OutOfMemory
+        → result ≡ Err WordsFault.Memory) }
 {
     match arguments {
-        Ok(all) => behind_first(alloc, all),
-        Err(fault) if fault.kind() == ErrorKind::OutOfMemory => Err(AllocError),
-        Err(_) => Ok(Vec::new(alloc)),
+        Ok(all) => Ok(behind_first(alloc, all)?),
+        Err(fault) if fault.kind() == ErrorKind::OutOfMemory => Err(WordsFault::Memory),
+        Err(_) => Err(WordsFault::Illegible),
     }
 }
 
@@ -43,7 +64,11 @@ pub fn settings_in(
 ) -> Result<Option<Settings>, AllocError>
     ensures { IfOk result (λ set. set ≡ settings_of (words_in arguments)) }
 {
-    let words = words_of(alloc, arguments)?;
+    let words = match words_of(alloc, arguments) {
+        Ok(words) => words,
+        Err(WordsFault::Illegible) => return Ok(None),
+        Err(WordsFault::Memory) => return Err(AllocError),
+    };
     match settings(alloc, &words) {
         Ok(settings) => Ok(Some(settings)),
         Err(SettingsFault::Usage) => Ok(None),

@@ -1,0 +1,14 @@
+-- What the run of no words promises, and what was said behind it.
+use Rattle.std.proofs.Common.{refl, inl}
+use Rattle.vnfm_program.proofs.program.tell_illegible.Goals as goal
+
+pub returns : goal.returns
+returns g c = rw (← c.machine.view_is) (inl (record {
+  before = _;
+  after = _;
+  has_mouth = c.in-Ok.is;
+  mouth = refl;
+  promises = c.run-status.ensures.promises;
+  explains = c.explain.ensures;
+  kept = record { device = refl; files = refl };
+}))
