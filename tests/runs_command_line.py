@@ -18,7 +18,9 @@ run(
     explained(ONCE, 0, ""),
     explained(ONCE, 0, "vnfm: the answer couldn't be delivered; what it says is recorded\n", undelivered=True),
     explained(ONCE, 3, "vnfm: \"j\": another manager holds its lock\n", "locked"),
-    explained(ONCE, 3, "vnfm: \"j\": the disk failed; the kernel's log says how\n"),
+    explained(ONCE, 3, "vnfm: \"j\": a call on it failed; if its disk did, the kernel's log says how\n", "other"),
+    explained(ONCE, 3, "vnfm: /dev/null couldn't be opened, which holds the places of closed standard streams\n"),
+    explained(ONCE, 9, "vnfm: \"j\": it has no room for what was to be recorded\n"),
     explained(ONCE, 6, "vnfm: there was no memory\n"),
     explained(["once", "--journal", "a\nb", "c"], 2, "vnfm: \"c\" isn't understood" + WORDS_END),
 )
@@ -28,6 +30,26 @@ run(
         explained(words, 3, "vnfm: \"j\": it is not a regular file\n", "not a file")
         for words in ([*ONCE, "--rounds", "2"], ["once", "--rounds", "2", "--journal", "j"])
     ],
+)
+run(
+    "each cause for which a journal is lost has words of its own",
+    *[
+        explained(ONCE, 3, 'vnfm: "j": %s\n' % text, lost)
+        for lost, text in [
+            *[("no folder", "there is no such folder"), ("not permitted", "there is no permission to read and write it")],
+            *[("read only", "its file system is read-only"), ("no space", "its file system has no space left, or no inode")],
+            *[("dangling link", "it is a symbolic link to nothing, or was made just now by another")],
+            *[("link loop", "its symbolic links form a loop, or are too many"), ("name too long", "a name in the path, or all of it, is too long")],
+            *[("quota", "the quota on its file system is used up"), ("too large", "it would be larger than a file may be")],
+            ("memory", "there was no memory"),
+        ]
+    ],
+    explained(["once", "--journal", ""], 3, 'vnfm: "": the path is empty\n', "no folder"),
+    explained(["once", "--journal", ""], 3, 'vnfm: "": its file system is read-only\n', "read only"),
+)
+run(
+    "a descriptor that is refused is told of",
+    explained(["onboard", "--journal", "j"], 10, "vnfm: the descriptor is not taken\n"),
 )
 run(
     "texts are asked for by their words",
@@ -85,14 +107,32 @@ def not_understood(word, *words):
     return no_command('"%s" isn\'t understood' % word, *words)
 
 
+def not_built(name, *words):
+    """The usage line names this command, which isn't built yet."""
+    line = 'vnfm: "%s" isn\'t built yet; vnfm --help says which commands are\n' % name
+    return [explained([name, *words], 2, line), ["set", [name, *words], "usage"]]
+
+
+def stands_twice(word, *words):
+    return no_command('"%s" stands twice' % word, *words)
+
+
+NUMBER, ROLE, TEXT = "a number from 0 to 4294967295, in at most 20 digits", "orchestrator or em", "a word that doesn't begin with -"
+
+
+def no_value(word, option, wanted, *words):
+    return no_command('"%s" is no value of %s, which takes %s' % (word, option, wanted), *words)
+
+
 run(
     "words that are no command are told apart",
     *no_command("a command is missing"),
     *not_understood("--journal", *AT_J, "once"),
     *not_understood("Once", "Once", *AT_J),
-    *not_understood("serve", "serve", *AT_J),
-    *not_understood("check", "check", *AT_J),
-    *not_understood("trial", "trial", "--start", "1", "--count", "1"),
+    *not_built("serve", *AT_J),
+    *not_built("check", *AT_J),
+    *not_built("trial", "--start", "1", "--count", "1"),
+    *not_understood("migrate", "migrate", *AT_J),
     *not_understood("--", "--", *ONCE),
     *no_command("--journal PATH is missing", "once"),
     *no_command("--journal PATH is missing", "once", "--rounds", "2"),
@@ -100,29 +140,32 @@ run(
     *no_command('"--rounds" has no value', *ONCE, "--rounds"),
     *not_understood("more", *ONCE, "more"),
     *not_understood("j", "once", "j"),
-    *not_understood("-j", "once", "--journal", "-j"),
-    *not_understood("-", "once", "--journal", "-"),
-    *not_understood("--role", "once", "--journal", "--role", "em"),
-    *not_understood("-h", "once", "--vim", "-h", *AT_J),
+    *no_value("-j", "--journal", TEXT, "once", "--journal", "-j"),
+    *no_value("-", "--journal", TEXT, "once", "--journal", "-"),
+    *no_value("--role", "--journal", TEXT, "once", "--journal", "--role", "em"),
+    *no_value("-h", "--vim", TEXT, "once", "--vim", "-h", *AT_J),
+    *no_value("-o", "--orchestrator", TEXT, *ONCE, "--orchestrator", "-o"),
     *not_understood("--journal=j", "once", "--journal=j"),
     *not_understood("--rounds=2", *ONCE, "--rounds=2", "x"),
     *not_understood("--", *ONCE, "--", "x"),
     *not_understood("--jour", "once", "--jour", "j"),
     *not_understood("-j", "once", "-j", "j"),
     *not_understood("--Journal", "once", "--Journal", "j"),
-    *not_understood("--journal", *ONCE, *AT_J),
-    *not_understood("--rounds", *ONCE, "--rounds", "2", "--rounds", "2"),
-    *not_understood("EM", *ONCE, "--role", "EM"),
-    *not_understood("", *ONCE, "--role", ""),
-    *not_understood("", *ONCE, "--rounds", ""),
-    *not_understood("4294967296", *ONCE, "--rounds", "4294967296"),
-    *not_understood("+1", *ONCE, "--rounds", "+1"),
+    *stands_twice("--journal", *ONCE, *AT_J),
+    *stands_twice("--rounds", *ONCE, "--rounds", "2", "--rounds", "2"),
+    *stands_twice("--vim", *ONCE, "--vim", "v", "--vim"),
+    *no_value("EM", "--role", ROLE, *ONCE, "--role", "EM"),
+    *no_value("", "--role", ROLE, *ONCE, "--role", ""),
+    *no_value("", "--rounds", NUMBER, *ONCE, "--rounds", ""),
+    *no_value("4294967296", "--rounds", NUMBER, *ONCE, "--rounds", "4294967296"),
+    *no_value("-1", "--rounds", NUMBER, *ONCE, "--rounds", "-1"),
+    *no_value("+1", "--rounds", NUMBER, *ONCE, "--rounds", "+1"),
     *not_understood("--manager", *ONCE, "--manager", "7"),
     *not_understood("--listen", *ONCE, "--listen", "h:1"),
     *not_understood("--rounds", "onboard", *AT_J, "--rounds", "1"),
     *no_command("--manager N is missing", "init", *AT_J),
     *no_command("--journal PATH is missing", "init", "--manager", "7"),
-    *not_understood("000000000000000000007", "init", *AT_J, "--manager", "000000000000000000007"),
-    *not_understood("\u0667", "init", *AT_J, "--manager", "\u0667"),
+    *no_value("000000000000000000007", "--manager", NUMBER, "init", *AT_J, "--manager", "000000000000000000007"),
+    *no_value("\u0667", "--manager", NUMBER, "init", *AT_J, "--manager", "\u0667"),
     *not_understood("--help", "init", *AT_J, "--help", "7"),
 )

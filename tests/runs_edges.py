@@ -16,6 +16,7 @@ NO_MEMORY = "no memory\nvnfm: there was no memory\n"
 TAKEN = "vnfm: \"j\": it is a journal already, or no file of this program's; give another path, or move it away\n"
 NO_LINE = "vnfm: the last line couldn't be written\n"
 UNDELIVERED = "vnfm: the answer couldn't be delivered; what it says is recorded\n"
+NO_REQUEST = "vnfm: standard input had no request\n"
 MADE, JOURNAL, JOURNAL_1, DESCRIPTOR = "$MADE", "$JOURNAL", "$JOURNAL_1", "$DESCRIPTOR"
 CREATE, CREATED, FAULT = "$CREATE", "$CREATED_1", "$FAULT"
 CREATION = cases.event(2, u64(1), name("vnfd-1"), u8(1), name("edge-1"), u8(0), moment=NOW)
@@ -31,6 +32,13 @@ def starts(words, status, printed, errors, made=0, word="start", **plan):
 def wrong(call, kind="Other", first=1, last=None, piece=WHOLE):
     """The calls of this name from the first to the last go wrong so."""
     return [piece, call, first, last or first, kind]
+
+
+UNREAD = "standard input couldn't be read any further"
+
+
+def unanswered(count, why):
+    return "vnfm: requests answered: %d; %s\n" % (count, why)
 
 
 def site_fault(words, why, made=0, **plan):
@@ -58,17 +66,21 @@ run(
     starts(INIT, 0, IS_MADE, "", 1, left=MADE),
     starts(ONBOARD, 0, IS_ONBOARDED, "", file=MADE, input=DESCRIPTOR, left=JOURNAL),
     starts(ONCE, 0, "", DONE, file=JOURNAL, input=CREATE, told=CREATED, left=JOURNAL_1),
-    starts(ONCE, 0, "", DONE, file=JOURNAL_1, left=JOURNAL_1),
+    starts(ONCE, 0, "", DONE + NO_REQUEST, file=JOURNAL_1, left=JOURNAL_1),
     starts(INIT, 11, "taken\n", TAKEN, file=JOURNAL_1, left=JOURNAL_1),
 )
 
 # ---- A file that can't be had
 
-DISK, NO_FOLDER = "the disk failed; the kernel's log says how", "there is no such folder"
+DISK, NO_FOLDER = "a call on it failed; if its disk did, the kernel's log says how", "there is no such folder"
 NOT_PERMITTED, NOT_A_FILE = "there is no permission to read and write it", "it is not a regular file"
 LOCKED = "another manager holds its lock"
-CAUSES = [("PermissionDenied", NOT_PERMITTED), ("ReadOnlyFilesystem", NOT_PERMITTED), ("NotADirectory", NO_FOLDER)]
-CAUSES += [("IsADirectory", NOT_A_FILE), ("WouldBlock", LOCKED), ("Other", DISK)]
+NO_SPACE = "its file system has no space left, or no inode"
+CAUSES = [("PermissionDenied", NOT_PERMITTED), ("ReadOnlyFilesystem", "its file system is read-only"), ("NotADirectory", NO_FOLDER)]
+CAUSES += [("IsADirectory", NOT_A_FILE), ("WouldBlock", LOCKED), ("Other", DISK), ("StorageFull", NO_SPACE)]
+CAUSES += [("AlreadyExists", "it is a symbolic link to nothing, or was made just now by another")]
+CAUSES += [("FilesystemLoop", "its symbolic links form a loop, or are too many"), ("QuotaExceeded", "the quota on its file system is used up")]
+CAUSES += [("InvalidFilename", "a name in the path, or all of it, is too long"), ("FileTooLarge", "it would be larger than a file may be")]
 for kind, why in CAUSES:
     run(
         "why a file can't be had is told by the fault: %s" % kind,
@@ -84,7 +96,7 @@ run("what is no regular file can't be had", site_fault(ONCE, NOT_A_FILE, file=JO
 run(
     "the folder is synced each time by init alone",
     starts(INIT, 0, IS_MADE, "", file="", left=MADE),
-    starts(ONCE, 0, "", DONE, file=JOURNAL, left=JOURNAL, wrong=wrong("folder")),
+    starts(ONCE, 0, "", DONE + NO_REQUEST, file=JOURNAL, left=JOURNAL, wrong=wrong("folder")),
     starts(ONBOARD, 0, IS_ONBOARDED, "", file=MADE, input=DESCRIPTOR, left=JOURNAL, wrong=wrong("folder")),
 )
 run(
@@ -104,6 +116,20 @@ run(
     # The first sync is the loading's, the second the record's.
     site_fault(ONCE, DISK, file=JOURNAL, input=CREATE, told=FAULT, left=UNSAFE, wrong=wrong("sync", first=2)),
 )
+for kind, why in CAUSES:
+    run(
+        "why a disk call failed is told by the fault: %s" % kind,
+        *[site_fault(ONCE, why, file=JOURNAL, input=CREATE, left=JOURNAL, wrong=wrong(call, kind)) for call in ("length", "read", "sync")],
+        site_fault(ONCE, why, file=JOURNAL, input=CREATE, told=FAULT, left=JOURNAL, wrong=wrong("write", kind)),
+        site_fault(INIT, why, file="", left="", wrong=wrong("write", kind)),
+    )
+run(
+    "an empty path is told as that",
+    *[
+        starts([*words, "--journal", "", *more], 3, printed, errors + 'vnfm: "": the path is empty\n', wrong=wrong("create", "NotFound"))
+        for words, more, printed, errors in [(["init"], ["--manager", "7"], "site fault\n", ""), (["once"], [], "", "site fault\n")]
+    ],
+)
 run(
     "each disk call that fails is told: as a file is made",
     *[site_fault(INIT, DISK, file="", left="", wrong=wrong(call)) for call in ("length", "sync", "write")],
@@ -120,14 +146,40 @@ for piece in 1, 7, WHOLE:
     )
 run(
     "a read that fails ends the connection",
-    *[starts(ONCE, 0, "", DONE, file=JOURNAL, input=CREATE, left=JOURNAL, wrong=wrong("receive", "Other", n, n, 20)) for n in (1, 3)],
+    *[starts(ONCE, 0, "", DONE + unanswered(0, UNREAD), file=JOURNAL, input=CREATE, left=JOURNAL, wrong=wrong("receive", "Other", n, n, 20)) for n in (1, 3)],
     # Two reads of 100 bytes give the first request and a part of the second.
-    starts(ONCE, 0, "", DONE, file=JOURNAL, input=[CREATE, CREATE], told=CREATED, left=JOURNAL_1, wrong=wrong("receive", "Other", 3, 3, 100)),
+    starts(
+        *[ONCE, 0, "", DONE + unanswered(1, UNREAD)],
+        **dict(file=JOURNAL, input=[CREATE, CREATE], told=CREATED, left=JOURNAL_1, wrong=wrong("receive", "Other", 3, 3, 100)),
+    ),
     *[
         starts(ONBOARD, 4, "door fault\n", "vnfm: standard input couldn't be read\n", file=MADE, input=DESCRIPTOR, left=MADE, wrong=it)
         for it in (wrong("receive"), wrong("receive", "Other", 2, 2, 20))
     ],
 )
+
+# ---- Bytes that get no answer, or a refusal that isn't to a request
+
+for count, front, told, left in (0, [], "", JOURNAL), (1, [CREATE], CREATED, JOURNAL_1):
+    run(
+        "bytes that are no request are told of behind %d" % count,
+        *[
+            starts(ONCE, 0, "", DONE + unanswered(count, why), file=JOURNAL, input=[*front, bad], told=[told, answer], left=left)
+            for bad, why, answer in [
+                ("POST / HTTP/1.1\r\nContent-Length: +5\r\n\r\nhello", "the bytes that are left are no request", "$MALFORMED"),
+                ("GET / HTTP/1.1\r\n" + "a: b\r\n" * 65 + "\r\n", "the bytes that are left are a request beyond a limit", "$TOO_LARGE"),
+                ("GET / HTTP/1.1\r\nHost: a\r\n", "the bytes that are left end inside a request", ""),
+                ("POST / HTTP/1.1\r\nContent-Length: 2\r\n\r\n{", "the bytes that are left end inside a request", ""),
+            ]
+        ],
+    )
+run(
+    "where nothing is listened for, nothing is told of",
+    starts([*ONCE, "--rounds", "0"], 0, "", "done after 0 rounds\n", file=JOURNAL, input="GET", left=JOURNAL),
+    starts([*ONCE, "--rounds", "3"], 0, "", "done after 3 rounds\n" + NO_REQUEST, file=JOURNAL, left=JOURNAL),
+    starts([*ONCE, "--rounds", "3"], 0, "", "done after 3 rounds\n", file=JOURNAL, input=CREATE, told=CREATED, left=JOURNAL_1),
+)
+
 run(
     "an answer that is not delivered is told",
     *[

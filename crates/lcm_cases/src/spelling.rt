@@ -10,6 +10,7 @@ use lcm_events::Role;
 use outside_edges::WhyLost;
 use program_words::{page_of, reason_of};
 use serde_json::Value;
+use served_account::Account;
 use std::alloc::{AllocError, Global};
 use vnfm_base::Text;
 
@@ -54,7 +55,14 @@ fn lost_by(word: &str) -> Result<Option<WhyLost>, CaseFault> {
         "locked" => WhyLost::Locked,
         "no folder" => WhyLost::NoFolder,
         "not permitted" => WhyLost::NotPermitted,
+        "read only" => WhyLost::ReadOnly,
         "not a file" => WhyLost::NotAFile,
+        "dangling link" => WhyLost::DanglingLink,
+        "link loop" => WhyLost::LinkLoop,
+        "name too long" => WhyLost::NameTooLong,
+        "no space" => WhyLost::NoSpace,
+        "quota" => WhyLost::Quota,
+        "too large" => WhyLost::TooLarge,
         "memory" => WhyLost::Memory,
         "other" => WhyLost::Other,
         _ => return Err(CaseFault::Spelling),
@@ -77,7 +85,7 @@ fn line_of(
     lost: Option<WhyLost>,
     undelivered: bool,
 ) -> Result<String, AllocError> {
-    match reason_of(status, lost, undelivered) {
+    match reason_of(status, lost, undelivered, Account::new()) {
         Some(reason) => reason.line(alloc, words),
         None => Ok(String::new(alloc)),
     }
