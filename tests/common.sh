@@ -6,6 +6,14 @@ room=$(mktemp -d) || exit 1
 trap 'rm -rf "$room"' EXIT
 differs=0
 
+# What stands on standard error where a descriptor is refused, and where it is no JSON from this line and column on.
+json="no byte order mark may stand in front, and YAML isn't read, of which JSON is made by \
+python3 -c 'import json, sys, yaml; json.dump(yaml.safe_load(sys.stdin), sys.stdout, default=str)'"
+refused="the descriptor is not taken"
+no_json() { # LINE COLUMN
+    echo "the descriptor is not taken: it is no JSON from line $1, column $2 on; $json"
+}
+
 # Prints what was seen, and notes where it isn't what is wanted.
 expect() { # WHAT SEEN WANTED
     printf '%s: %s\n' "$1" "$2"

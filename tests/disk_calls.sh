@@ -117,8 +117,8 @@ stopped() { # CALL ERROR
 }
 
 expect "once that can't have the lock" "$(stopped flock EAGAIN)" "status 3, another manager holds its lock, openat flock "
-expect "once whose lock fails" "$(stopped flock ENOLCK)" "status 3, the disk failed; the kernel's log says how, openat flock "
-expect "once whose pages can't be dropped" "$(stopped fadvise64 EIO)" "status 3, the disk failed; the kernel's log says how, openat flock fadvise64 "
+expect "once whose lock fails" "$(stopped flock ENOLCK)" "status 3, a call on it failed; if its disk did, the kernel's log says how, openat flock "
+expect "once whose pages can't be dropped" "$(stopped fadvise64 EIO)" "status 3, a call on it failed; if its disk did, the kernel's log says how, openat flock fadvise64 "
 
 cp "$start" "$journal"
 strace -o "$room/calls" -e trace=flock,pwrite64,pread64,ftruncate,fdatasync "$program" once --journal "$journal" \

@@ -57,7 +57,7 @@ lost "a pipe" "$files/pipe" "it is not a regular file"
 
 python3 -c 'import socket, sys; socket.socket(socket.AF_UNIX).bind(sys.argv[1])' "$files/socket" || exit 1
 chmod 666 "$files/socket"
-lost "a socket" "$files/socket" "the disk failed; the kernel's log says how"
+lost "a socket" "$files/socket" "a call on it failed; if its disk did, the kernel's log says how"
 
 lost "a device" /dev/null "it is not a regular file"
 

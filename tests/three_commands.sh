@@ -23,6 +23,11 @@ unclear() { # WORD
     printf 'vnfm: "%s" isn'"'"'t understood; vnfm --help says more' "$1"
 }
 
+# The same of a value that its option doesn't take.
+no_value() { # VALUE OPTION WANTED
+    printf 'vnfm: "%s" is no value of %s, which takes %s; vnfm --help says more' "$1" "$2" "$3"
+}
+
 usage="usage: vnfm init|onboard|once|serve|check|trial"
 try "init" /dev/null 0 "journal made for manager 7" "" 33 init --journal "$journal" --manager 7
 expect "init, lines of standard output" "$(wc -l <"$room/out" | tr -d ' ')" 1
@@ -34,15 +39,15 @@ try "init again" /dev/null 11 "taken" \
 try "a creation without a descriptor" "$request" 0 "HTTP/1.1 422 Unprocessable Content" "done after 1 rounds" 33 \
     once --journal "$journal"
 expect "a creation without a descriptor, answer" "$(tail -n 1 "$room/out")" '{"detail":"vnfdId is not onboarded","status":422}'
-try "onboard nothing" /dev/null 10 "descriptor refused: not JSON" "vnfm: the descriptor is not taken" 33 \
+try "onboard nothing" /dev/null 10 "descriptor refused: not JSON" "vnfm: $(no_json 1 0)" 33 \
     onboard --journal "$journal"
 try "onboard" "$descriptor" 0 "onboarded vnfd-1: 2 vdus, 1 aspects, 2 levels" "" 294 onboard --journal "$journal"
 expect "onboard, lines of standard output" "$(wc -l <"$room/out" | tr -d ' ')" 1
-try "onboard again" "$descriptor" 10 "descriptor refused: vnfdId is onboarded" "vnfm: the descriptor is not taken" 294 \
+try "onboard again" "$descriptor" 10 "descriptor refused: vnfdId is onboarded" "vnfm: $refused" 294 \
     onboard --journal "$journal"
 sed 's/,"default_level":"normal"//' "$descriptor" >"$room/levels.json"
 try "onboard without a default level" "$room/levels.json" 10 "descriptor refused: missing default_level" \
-    "vnfm: the descriptor is not taken" 294 onboard --journal "$journal"
+    "vnfm: $refused" 294 onboard --journal "$journal"
 try "once" "$request" 0 "HTTP/1.1 201 Created" "done after 1 rounds" 332 once --journal "$journal"
 expect "once, bytes of the body" "$(sed -n 's/^Content-Length: //p' "$room/out" | tr -d '\r')" 422
 try "once again" "$request" 0 "HTTP/1.1 201 Created" "done after 1 rounds" 370 once --journal "$journal"
@@ -56,10 +61,14 @@ try "onboard with words too many" "$descriptor" 2 "$usage" "$(unclear --manager)
 try "init with a word too many" /dev/null 2 "$usage" "$(unclear 8)" 370 init --journal "$journal" --manager 7 8
 try "init without a manager" /dev/null 2 "$usage" "vnfm: --manager N is missing; vnfm --help says more" 370 \
     init --journal "$journal"
-try "a manager past the last" /dev/null 2 "$usage" "$(unclear 4294967296)" 370 init --journal "$journal" --manager 4294967296
+try "a manager past the last" /dev/null 2 "$usage" \
+    "$(no_value 4294967296 --manager "a number from 0 to 4294967295, in at most 20 digits")" 370 \
+    init --journal "$journal" --manager 4294967296
 try "no journal named" "$request" 2 "$usage" "vnfm: --journal PATH is missing; vnfm --help says more" 370 once
-try "an option for a path" "$request" 2 "$usage" "$(unclear --manager)" 370 once --journal --manager
-try "an option twice" "$request" 2 "$usage" "$(unclear --rounds)" 370 once --journal "$journal" --rounds 1 --rounds 1
+try "an option for a path" "$request" 2 "$usage" "$(no_value --manager --journal "a word that doesn't begin with -")" 370 \
+    once --journal --manager
+try "an option twice" "$request" 2 "$usage" 'vnfm: "--rounds" stands twice; vnfm --help says more' 370 \
+    once --journal "$journal" --rounds 1 --rounds 1
 try "an option joined to its value" "$request" 2 "$usage" "$(unclear --rounds=2)" 370 once --journal "$journal" --rounds=2
 try "an option without a value" "$request" 2 "$usage" 'vnfm: "--rounds" has no value; vnfm --help says more' 370 \
     once --journal "$journal" --rounds
