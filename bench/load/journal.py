@@ -12,6 +12,14 @@ Its history is legal: one descriptor with one kind of machine is onboarded, and 
                       subscriptions of their own, and each notice is posted to each subscription at once
   waiting NUMBER      the same, but nothing is posted
   filtered NUMBER     nothing is posted, since each filter has as many texts as it may, and lets nothing through
+  ends NUMBER         so many subscriptions are made, of which each list of names has as many as it may; then an attempt of one instance fails
+                      and is tried again, without end. Descriptor and instance have names of 255 bytes, and each name of a list is that of
+                      the notice but for its last byte
+  middles NUMBER      the same, but for the byte amid it
+  begins NUMBER       the same, but for its first byte
+  fronts NUMBER       the same, but for its length: each is a front of it
+  last NUMBER         as `ends`, but the last name of each list is that of the notice, which each filter so lets through
+  alone NUMBER        as `last`, but no other name is in a list
   newest NUMBER       so many instances are created; then one more is created and deleted, in turn
   oldest NUMBER       the same, but the oldest instance is deleted
   busy NUMBER         so many instances are created, and instantiated up to the work; then the work on the first one fails and is tried
@@ -49,10 +57,10 @@ class Ends(Exception):
     """The journal has all events that were wanted."""
 
 
-def descriptor(number, machines):
-    """The descriptor of this number, of instances that begin with so many machines of one kind."""
+def descriptor(machines):
+    """A descriptor of instances that begin with so many machines of one kind, but for its identifier."""
     return (
-        name(f"machine-{number}") + name("Example Networks") + name("machine") + name("1.0") + name("1.0") + name("simple")
+        name("Example Networks") + name("machine") + name("1.0") + name("1.0") + name("simple")
         + many([name("machine") + u64(1024) + u32(1) + u32(0xFFFFFFFF) + u32(machines) + many([])])
         + many([]) + many([]) + many([]) + many([])
         + many([name("only")]) + u16(0)
@@ -72,6 +80,32 @@ def changes(phase, verb, machines):
 def filter_of(values):
     """A filter with so many values in each list of texts, of which none is that of a notice here."""
     return many([name(f"no-such-text-{value}") for value in range(values)]) * 3 + many([]) * 3
+
+
+# The name of a descriptor and of an instance, as long as it may be, and the text of the identifier of instance 1 of the manager.
+LONG = "n" * 255
+FIRST = f"{MANAGER:08x}-766d-8001-8000-000000000001"
+LETTERS = "ABCDEFGHIJKLMNOPQRSTUVWXYZ0123456789abcdefghijklm_oqrstuvwxyz+-/="
+
+
+def put_at(text, place, letter):
+    return text[:place] + letter + text[place + 1:]
+
+
+# The names of a list, by that of the notice.
+NEAR = {
+    "ends": lambda text: [put_at(text, len(text) - 1, letter) for letter in LETTERS],
+    "middles": lambda text: [put_at(text, len(text) // 2, letter) for letter in LETTERS],
+    "begins": lambda text: [put_at(text, 0, letter) for letter in LETTERS],
+    "fronts": lambda text: [text[:len(text) - 1 - value % (len(text) - 1)] for value in range(64)],
+    "last": lambda text: [put_at(text, len(text) - 1, letter) for letter in LETTERS][:63] + [text],
+    "alone": lambda text: [text],
+}
+
+
+def near(shape):
+    """A filter of which the names are such for the notices of instance 1."""
+    return b"".join(many([name(text) for text in NEAR[shape](value)[:64]]) for value in (LONG, FIRST, LONG)) + many([]) * 3
 
 
 class Journal:
@@ -106,14 +140,14 @@ class Journal:
     def post(self, subscription, place):
         self.put(POSTED, u64(subscription) + u64(place) + u8(0))
 
-    def onboard(self, number):
+    def onboard(self, number, named=None):
         """Onboards a descriptor, of which the instances are from now on."""
-        self.vnfd = name(f"machine-{number}")
-        self.put(ONBOARDED, descriptor(number, self.machines))
+        self.vnfd = name(named or f"machine-{number}")
+        self.put(ONBOARDED, self.vnfd + descriptor(self.machines))
 
-    def create(self):
+    def create(self, named=None):
         self.instance += 1
-        self.put(CREATED, u64(self.instance) + self.vnfd + none + none)
+        self.put(CREATED, u64(self.instance) + self.vnfd + (u8(1) + name(named) if named else none) + none)
 
     def delete(self, instance):
         self.put(DELETED, u64(instance))
@@ -142,9 +176,9 @@ class Journal:
     def settle(self, attempt, outcome, change=0):
         self.put(SETTLED, self.tag(attempt, change) + outcome)
 
-    def subscribe(self, role=0, values=0, callback="http://receiver.example/"):
+    def subscribe(self, role=0, values=0, callback="http://receiver.example/", narrow=None):
         self.subscription += 1
-        self.put(SUBSCRIBED, u64(self.subscription) + u8(role) + line(callback) + filter_of(values))
+        self.put(SUBSCRIBED, u64(self.subscription) + u8(role) + line(callback) + (filter_of(values) if narrow is None else narrow))
 
     def live(self, subscribes):
         """The whole life of an instance, which maybe has a subscription of its own."""
@@ -214,6 +248,16 @@ def told(journal, number, values=0, posts=False):
         journal.live(False)
 
 
+def narrow(journal, number, shape):
+    journal.onboard(2, LONG)
+    for subscription in range(number):
+        journal.subscribe(subscription % 2, narrow=near(shape))
+    journal.create(LONG)
+    journal.ask(journal.instantiate)
+    journal.grant()
+    fail(journal)
+
+
 def in_turn(journal, number, newest):
     live = deque()
     while True:
@@ -229,6 +273,11 @@ def busy(journal, number):
         journal.ask(journal.instantiate)
         journal.grant()
     journal.occurrence = 1
+    fail(journal)
+
+
+def fail(journal):
+    """Attempts of the occurrence fail and are made again."""
     attempt = 0
     while True:
         attempt += 1
@@ -270,6 +319,7 @@ SHAPES = {
     "posted": lambda journal, number: told(journal, number, posts=True),
     "waiting": told,
     "filtered": lambda journal, number: told(journal, number, values=64),
+    **{shape: lambda journal, number, shape=shape: narrow(journal, number, shape) for shape in NEAR},
     "newest": lambda journal, number: in_turn(journal, number, True),
     "oldest": lambda journal, number: in_turn(journal, number, False),
     "busy": busy,

@@ -15,6 +15,7 @@ import measuring
 # all there before the least.
 SHAPES = [
     ("onboarded", 256, 10_000, 40_000), ("posted", 200, 10_000, 40_000), ("waiting", 200, 5_000, 20_000), ("filtered", 200, 1_000, 4_000),
+    *[(shape, 200, 1_000, 4_000) for shape in journal.NEAR],
     ("newest", 1, 10_000, 40_000), ("newest", 999, 10_000, 40_000), ("oldest", 999, 5_000, 20_000),
     ("busy", 1, 10_000, 40_000), ("busy", 999, 10_000, 40_000),
     ("large", 1, 10_000, 40_000), ("large", 100, 10_000, 40_000), ("large", 2500, 10_000, 30_000),
