@@ -118,11 +118,11 @@ try "a byte order mark" "$room/marked.json" 10 "descriptor refused: not JSON" "$
 sed 's/"VDU_B":/VDU_B:/' <"$here/examples/vnfd.json" >"$room/unquoted.json"
 try "a name without quotes" "$room/unquoted.json" 10 "descriptor refused: not JSON" "$(no_json 4 1)" onboard --journal "$room/made"
 head -c 100 <"$here/examples/vnfd.json" >"$room/cut.json"
-try "a document that is cut short" "$room/cut.json" 10 "descriptor refused: not JSON" "$(no_json 1 100)" onboard --journal "$room/made"
+try "a document that is cut short" "$room/cut.json" 10 "descriptor refused: not JSON" "$(no_json 2 7)" onboard --journal "$room/made"
 if python3 -c 'import yaml' 2>/dev/null; then
     python3 -c 'import json, sys, yaml; yaml.safe_dump(json.load(sys.stdin), sys.stdout)' <"$here/examples/vnfd.json" \
         >"$room/vnfd.yaml"
-    try "YAML" "$room/vnfd.yaml" 10 "descriptor refused: not JSON" "$(no_json 1 2)" onboard --journal "$room/made"
+    try "YAML" "$room/vnfd.yaml" 10 "descriptor refused: not JSON" "$(no_json 1 1)" onboard --journal "$room/made"
     # The command of the advice, as a person copies it.
     convert=$(sed -n 's/^.*JSON is made by //p' "$room/err")
     eval "$convert" <"$room/vnfd.yaml" >"$room/converted.json"
