@@ -1,8 +1,7 @@
 -- What an ask comes to over the row of its instance it comes to after the history.
-use Rattle.std.proofs.Common.{◌≡◌, ◌∙◌, ℕ, List, [], ◌∷◌, Bool, true, false, cond, not, Option, None, Some, is_some, option_map, refl, ap}
-use Rattle.std.proofs.Common.{sym, subst}
+use Rattle.std.proofs.Common.{◌≡◌, ◌∙◌, ℕ, List, [], ◌∷◌, Bool, true, false, cond, Option, None, Some, is_some, option_map, refl, ap}
+use Rattle.std.proofs.Common.{sym}
 use Rattle.std.specs.Prelude.{option_and_then}
-use Rattle.std.proofs.lemmas.Option.{none-some}
 use Rattle.lcm_events.specs.declared.asks.Ask.{Ask}
 use Rattle.lcm_events.specs.declared.changes.Change.{Change}
 use Rattle.lcm_events.specs.declared.descriptor.Vnfd.{Vnfd}
@@ -12,15 +11,13 @@ use Rattle.lcm_model.specs.Allowed.{IsLegal}
 use Rattle.lcm_model.specs.Descriptors.{IsHoldingOf, IsValid}
 use Rattle.lcm_model.specs.Instances.{holding}
 use Rattle.lcm_model.specs.Levels.{target}
-use Rattle.lcm_model.specs.Lives.{CreatedInstance, creation, descriptor, descriptor_named, is_deleted, is_live}
+use Rattle.lcm_model.specs.Lives.{CreatedInstance, creation, descriptor, descriptor_named, is_live}
 use Rattle.lcm_model.specs.Operations.{ongoing}
 use Rattle.lcm_model.specs.Plans.{plan}
 use Rattle.lcm_model.specs.Refusals.{ask_refusal, content_refusal, plan_refusal, situation, state_refusal}
 use Rattle.lcm_model.specs.Words.{first, first_some}
 use Rattle.lcm_model.specs.Work.{window}
 use Rattle.lcm_model.specs.declared.refusals.Refusal.{Refusal}
-use Rattle.lcm_laws.proofs.HoldLaws.{some_value}
-use Rattle.lcm_laws.proofs.Lists.{and_left, by_test}
 use Rattle.lcm_plans.proofs.AskedLaws.{asked_held, asked_valid, planned_same, standing_same}
 use Rattle.lcm_plans.specs.Cases.{CanBeAsked, standing_refusal}
 use Rattle.change_planner.specs.Inventories.{case_of}

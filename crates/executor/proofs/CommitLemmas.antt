@@ -1,6 +1,6 @@
 -- What recording an event does, from what the append does.
-use Rattle.std.proofs.Common.{◌≡◌, ◌≤◌, ◌<◌, ◌⊎◌, ◌∙◌, ℕ, List, [], ◌∷◌, ◌++◌, length, length-append, true, false, true≢false, Result, Ok}
-use Rattle.std.proofs.Common.{Err, ap, arith, inl, inr, sym, subst, refl, ⊎_elim}
+use Rattle.std.proofs.Common.{◌≡◌, ◌≤◌, ◌<◌, ◌+◌, ◌⊎◌, ◌∙◌, ℕ, List, [], ◌∷◌, ◌++◌, length, length-append, true, false, true≢false, Result}
+use Rattle.std.proofs.Common.{Ok, Err, ap, arith, inl, inr, sym, subst, refl, ⊎_elim}
 use Rattle.std.proofs.lemmas.Bool.{cases_lt, le-leb, lt-leb}
 use Rattle.event_codec.specs.Spell.{spelling}
 use Rattle.event_codec.specs.Valid.{IsEvent}
@@ -30,23 +30,23 @@ use Rattle.site_traits.specs.Site.{KeepsJobs, LeavesOnly, Pair, SiteState}
 use Rattle.site_traits.specs.Moments.{is_since}
 
 -- there is room for the event
-pub room_told : HasRoomBefore → (limit end more : ℕ) (H : List Event) (e : Event) → end ≡ journal_end H → more ≡ length (spelling e)
-    → HasRoom end more limit → is_full limit (e ∷ H) ≡ false
+pub room_told : HasRoomBefore → (limit saved end more : ℕ) (H : List Event) (e : Event) → end + saved ≡ journal_end H
+    → more ≡ length (spelling e) → HasRoom end more limit → is_full limit saved (e ∷ H) ≡ false
 unfolding is_full
-room_told before limit end more H e end_is more_is room =
-    let less : journal_end (e ∷ H) < limit = rw (spellings-cons e H)
-    ((before (spellings H) (spelling e) limit).0 (rw (← end_is, ← more_is) room)) in
-    lt-leb limit (journal_end (e ∷ H)) less
+room_told before limit saved end more H e end_is more_is room =
+    let less : journal_end (e ∷ H) < limit + saved = rw (spellings-cons e H)
+    ((before (spellings H) (spelling e) end saved limit end_is).0 (rw (← more_is) room)) in
+    lt-leb (limit + saved) (journal_end (e ∷ H)) less
 
 -- there is none
-pub full_told : HasRoomBefore → (limit end more : ℕ) (H : List Event) (e : Event) → end ≡ journal_end H → more ≡ length (spelling e)
-    → (HasRoom end more limit → ⊥) → is_full limit (e ∷ H) ≡ true
+pub full_told : HasRoomBefore → (limit saved end more : ℕ) (H : List Event) (e : Event) → end + saved ≡ journal_end H
+    → more ≡ length (spelling e) → (HasRoom end more limit → ⊥) → is_full limit saved (e ∷ H) ≡ true
 unfolding is_full
-full_told before limit end more H e end_is more_is none = ⊎_elim
-    (λ (less : journal_end (e ∷ H) < limit). absurd (none (rw (end_is, more_is)
-    ((before (spellings H) (spelling e) limit).1 (rw (spellings-cons e H) at less)))))
-    (λ (most : limit ≤ journal_end (e ∷ H)). le-leb limit (journal_end (e ∷ H)) most)
-    (cases_lt (journal_end (e ∷ H)) limit)
+full_told before limit saved end more H e end_is more_is none = ⊎_elim
+    (λ (less : journal_end (e ∷ H) < limit + saved). absurd (none (rw more_is
+    ((before (spellings H) (spelling e) end saved limit end_is).1 (rw (spellings-cons e H) at less)))))
+    (λ (most : limit + saved ≤ journal_end (e ∷ H)). le-leb (limit + saved) (journal_end (e ∷ H)) most)
+    (cases_lt (journal_end (e ∷ H)) (limit + saved))
 
 -- a history between one and it with an event more is one of the two
 pub between_one : (H K : List Event) (e : Event) → Extends H K → Extends K (e ∷ H) → (K ≡ H) ⊎ (K ≡ e ∷ H)

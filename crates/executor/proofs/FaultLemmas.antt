@@ -26,7 +26,7 @@ on_err (Err why) P Q leads on = leads on
 
 -- an append for which the file has room fails for the disk
 pub disk_failed : (why : AppendFault) (end more : ℕ) → HasRoom end more MAX_FILE
-    → ((a b : ℕ) → why ≡ appending.Full a b → MAX_FILE < end + 6 + more) → why ≡ appending.Disk
+    → ((a b : ℕ) → why ≡ appending.Full a b → MAX_FILE < end + 10 + more) → why ≡ appending.Disk
 disk_failed (appending.Full a b) end more room over = let past = over a b refl in absurd (omega (arith, past, room))
 disk_failed appending.Disk end more room over = refl
 

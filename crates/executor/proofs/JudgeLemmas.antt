@@ -20,6 +20,11 @@ use Rattle.std.specs.Result.{IsErrAnd}
 use Rattle.executor.specs.declared.manager.OpenFault.{OpenFault}
 use Rattle.executor.specs.declared.manager.OpenFault.TheVariants as opening
 use Rattle.executor.specs.History.{spellings}
+use Rattle.journal_core.specs.Header.{HasHeader}
+use Rattle.journal_core.specs.declared.loading.LoadFault.{LoadFault}
+use Rattle.journal_core.specs.declared.loading.LoadFault.TheVariants as loading
+use Rattle.executor.specs.Faults.{opened_fault}
+use Rattle.executor.specs.Loading.{Finds as Refused}
 use Rattle.executor.specs.Loading.{IsNext, StepsFrom, JudgesNext, AreJudged, IsJudged, IsThrough, IsUnderWay, JudgesAll}
 use Rattle.executor.specs.Open.{IsBadAt}
 use Rattle.executor.specs.Room.{journal_end}
@@ -72,7 +77,7 @@ step_judged up j j' l l' H H' judged reads step tables =
       legal = steps_legal l'.manager l'.count l'.record_bytes j.bad H j'.bad H' step (rw reads.manager judged.legal);
       events = steps_events l'.manager l'.count l'.record_bytes j.bad H j'.bad H' step judged.events;
       count = λ none. count_more l'.manager l'.record_bytes j.bad H H' l.count l'.count (on none) judged.count reads.count;
-      end = λ none. end_more up l'.manager l'.record_bytes j.bad H H' l.end l'.end (on none) judged.end reads.end;
+      end = λ none. end_more up l'.manager l'.record_bytes j.bad H H' l.total l'.total (on none) judged.end reads.total;
     }
 
 -- the records with one more, as they were judged
@@ -109,7 +114,7 @@ are_judged m n bytes None H (Some k) H' rs step judged legal events place = reco
 
 -- one record more was read and judged
 pub step_on : (tells : Type 0) → AddsUp → TakesMore → SerialsAreCounted → (j j' : Judged) (l l' : Progress) (a b : SiteState)
-    → IsUnderWay tells j l a → l.end < MAX_FILE → ReadsOn l l' → JudgesNext l'.count l'.record_bytes j j'
+    → IsUnderWay tells j l a → l.total < MAX_FILE + MAX_FILE → ReadsOn l l' → JudgesNext l'.count l'.record_bytes j j'
     → (tells → (rs : List (List ℕ)) → Loads rs l a → Loads (rs ++ l'.record_bytes ∷ []) l' b) → IsUnderWay tells j' l' b
 step_on tells up longer law j j' l l' a b way within reads step loads =
     let H = way.history in
@@ -132,10 +137,10 @@ step_on tells up longer law j j' l l' a b way within reads step loads =
 
 -- where no record was bad, the tables are those of a small history
 pub small_so_far : (tells : Type 0) → TakesMore → SerialsAreCounted → (j : Judged) (l : Progress) (s : SiteState) → IsUnderWay tells j l s
-    → l.end < MAX_FILE → j.bad ≡ None → HasSmallHistory j.tables
+    → l.total < MAX_FILE + MAX_FILE → j.bad ≡ None → HasSmallHistory j.tables
 small_so_far tells longer law j l s way within none =
     let is = way.judged in
-    let fits : journal_end way.history < MAX_FILE = rw (← is.end none) within in
+    let fits : journal_end way.history < MAX_FILE + MAX_FILE = rw (← is.end none) within in
     record {
       manager = l.manager;
       history = way.history;
@@ -170,9 +175,9 @@ none_judged tells t l s begun loads tables = record {
 
 -- behind the last one
 pub all_judged : (tells : Type 0) (j : Judged) (l k : Progress) (a b : SiteState) → IsUnderWay tells j l a → k.manager ≡ l.manager
-    → k.count ≡ l.count → k.end ≡ l.end
+    → k.count ≡ l.count → k.total ≡ l.total
     → (tells → (rs : List (List ℕ)) → Loads rs l a → LoadsAll rs k b) → IsThrough tells j k b
-all_judged tells j l k a b way manager count end ends =
+all_judged tells j l k a b way manager count total ends =
     let is = way.judged in
     record {
       history = way.history;
@@ -182,7 +187,7 @@ all_judged tells j l k a b way manager count end ends =
         events = is.events;
         count =
             λ none. count ∙ is.count none;
-        end = λ none. end ∙ is.end none;
+        end = λ none. total ∙ is.end none;
       };
       all = λ told. let so_far = way.so_far told in record {
         rs = so_far.rs;
@@ -197,7 +202,7 @@ pub through : (tells : Type 0) (j : Judged) (answer : Found) (l k : Progress) (a
     → (answer ≡ found.Record → ⊥)
     → Grows (Ok answer) l k → (tells → (rs : List (List ℕ)) → Loads rs l a → Finds rs (Ok answer) k b) → IsThrough tells j k b
 through tells j found.Record l k a b way other grows finds = absurd (other refl)
-through tells j found.End l k a b way other grows finds = all_judged tells j l k a b way grows.manager grows.count grows.end finds
+through tells j found.End l k a b way other grows finds = all_judged tells j l k a b way grows.manager grows.count grows.total finds
 
 -- there was no memory to judge it
 pub judges_starved : (r : Result Judged OpenFault) (rs : List (List ℕ)) (l : Progress) (a b : SiteState)
@@ -205,3 +210,21 @@ pub judges_starved : (r : Result Judged OpenFault) (rs : List (List ℕ)) (l : P
 judges_starved (Ok j) rs l a b is loads reads = absurd is
 judges_starved (Err why) rs l a b is loads reads =
     let P : OpenFault → Type 0 = λ w. JudgesAll (Err w) l a b in subst P (sym is) (record { finds = loads.header; reads = reads })
+
+-- why a step of a loading found none is what a judging of all finds
+pub finds_why : (rs : List (List ℕ)) (e : LoadFault) (r : Result Judged OpenFault) (l k : Progress) (a b : SiteState)
+    → r ≡ Err (opened_fault e) → Loads rs l a → Reads a b → k.manager ≡ l.manager → Finds rs (Err e) k b → Refused r k b
+finds_why rs e r l k a b is loads reads same found =
+    let P : List ℕ → Type 0 = λ v. HasHeader k.manager v in
+    let Q : ℕ → Type 0 = λ v. HasHeader v a.image in
+    let header = subst P (sym reads.same) (subst Q (sym same) loads.header) in
+    let R : Result Judged OpenFault → Type 0 = λ v. Refused v k b in
+    let by : (why : LoadFault) → Finds rs (Err why) k b → Refused (Err (opened_fault why)) k b = λ why.
+    elim why as (λ v. Finds rs (Err v) k b → Refused (Err (opened_fault v)) k b) [
+      | loading.Unmade ↦ λ wrong. absurd wrong
+      | loading.Foreign place ↦ λ wrong. absurd wrong
+      | loading.Broken n ↦ λ at. (at.0, header)
+      | loading.Disk ↦ λ done. tt
+      | loading.Memory ↦ λ wrong. absurd wrong
+    ] in
+    subst R (sym is) (by e found)

@@ -1,6 +1,6 @@
 -- What a load and a commit do, from what the journal's calls do.
-use Rattle.std.proofs.Common.{◌≡◌, ◌≤◌, ◌<◌, ◌+◌, ℕ, List, [], ◌∷◌, ◌++◌, length, true, false, Ok, Err, Result, true≢false, ap, ◌∙◌, sym}
-use Rattle.std.proofs.Common.{subst, refl, inl, inr, arith, Option, Some, None, ⊎_elim}
+use Rattle.std.proofs.Common.{◌≡◌, ◌≤◌, ◌<◌, ◌+◌, ◌-◌, ℕ, List, [], ◌∷◌, ◌++◌, length, true, false, Ok, Err, Result, true≢false, ap, ◌∙◌}
+use Rattle.std.proofs.Common.{sym, subst, refl, inl, inr, arith, Option, Some, None, ⊎_elim}
 use Rattle.std.specs.Result.{IsErrAnd}
 use Rattle.event_codec.specs.Spell.{spelling}
 use Rattle.event_codec.specs.Valid.{IsEvent}
@@ -42,12 +42,13 @@ spelling-some e = omega arith
 -- a kept history, and the next event
 pub kept_more : AddsUp → (l k : Ledger) (H : List Event) (e : Event) → IsKept l H → l.closed ≡ false → k.manager ≡ l.manager
     → k.count ≡ l.count + 1
-    → Adds (spelling e) l.end k.end → IsEvent e → IsAllowed l.manager H e.kind → IsKept k (e ∷ H)
-kept_more up l k H e kept usable manager count end event allowed = record {
+    → Adds (spelling e) l.end k.end → k.saved ≡ l.saved → IsEvent e → IsAllowed l.manager H e.kind → IsKept k (e ∷ H)
+kept_more up l k H e kept usable manager count end saved event allowed = record {
   legal = let P : ℕ → Type 0 = λ m. IsLegal m (e ∷ H) in subst P (sym manager) (allowed, kept.legal);
   events = (event, kept.events);
   count = λ _. let before = kept.count usable in omega arith;
-  end = λ _. up (spellings H) (spelling e) l.end k.end (kept.end usable) end ∙ ap size (sym (spellings-cons e H));
+  end = λ _. up (spellings H) (spelling e) (l.end + l.saved) (k.end + k.saved) (kept.end usable) (omega (arith, end, saved))
+      ∙ ap size (sym (spellings-cons e H));
 }
 
 -- a stop leaves the history, or it and the event
@@ -89,8 +90,8 @@ refuses_of opening.Memory l s found = (l.manager, found)
 
 -- a journal all of whose records were judged, and none of them bad, is a manager's
 pub opened : (tells : Type 0) (j : Judged) (l : Progress) (s : SiteState) → IsThrough tells j l s → j.bad ≡ None
-    → (H : List Event) × IsReady tells (record { ledger = ledger_of l; tables = j.tables }) H s
-opened tells j l s through none =
+    → l.end + (l.total - l.end) ≡ l.total → (H : List Event) × IsReady tells (record { ledger = ledger_of l; tables = j.tables }) H s
+opened tells j l s through none adds =
     let is = through.judged in
     let stands : tells → StandsFor (record { ledger = ledger_of l; tables = j.tables }) through.history s = λ told.
     let all = through.all told in
@@ -100,7 +101,7 @@ opened tells j l s through none =
       record {
         usable = refl;
         keeps = record {
-          kept = record { legal = is.legal; events = is.events; count = λ _. is.count none; end = λ _. is.end none };
+          kept = record { legal = is.legal; events = is.events; count = λ _. is.count none; end = λ _. adds ∙ is.end none };
           tables = is.tables;
         };
         stands = stands;
@@ -157,12 +158,13 @@ keeps_closed m n number closed tables H keeps =
 -- and the history with an event more that was recorded, by one whose tables followed the event from room that was reserved
 pub keeps_more : AddsUp → (m n : Managed) (between : Tables) (H : List Event) (e : Event) → Keeps m H → m.ledger.closed ≡ false
     → n.ledger.manager ≡ m.ledger.manager
-    → n.ledger.count ≡ m.ledger.count + 1 → Adds (spelling e) m.ledger.end n.ledger.end → IsEvent e → IsAllowed m.ledger.manager H e.kind
+    → n.ledger.count ≡ m.ledger.count + 1 → Adds (spelling e) m.ledger.end n.ledger.end → n.ledger.saved ≡ m.ledger.saved → IsEvent e
+    → IsAllowed m.ledger.manager H e.kind
     → StandForSame m.tables between
     → Applies e between n.tables → length H < 4611686018427387903 → Keeps n (e ∷ H)
-keeps_more up m n between H e keeps usable number count end event allowed same applies few =
+keeps_more up m n between H e keeps usable number count end saved event allowed same applies few =
     let Q : ℕ → Type 0 = λ k. AreTablesOf k n.tables (e ∷ H) in
     record {
-      kept = kept_more up m.ledger n.ledger H e keeps.kept usable number count end event allowed;
+      kept = kept_more up m.ledger n.ledger H e keeps.kept usable number count end saved event allowed;
       tables = subst Q (sym number) (applies m.ledger.manager H few keeps.kept.legal allowed (same m.ledger.manager H keeps.tables));
     }

@@ -67,7 +67,7 @@ keeps_read m n usable same tables H keeps =
         legal = subst P (sym same.manager) keeps.kept.legal;
         events = keeps.kept.events;
         count = λ _. same.count ∙ keeps.kept.count usable;
-        end = λ _. same.end ∙ keeps.kept.end usable;
+        end = λ _. rw (same.end, same.saved) (keeps.kept.end usable);
       };
       tables = rw (same.manager, tables) keeps.tables;
     }

@@ -96,7 +96,7 @@ events_fit longer (e ∷ H) =
     omega (arith, before, after)
 
 -- a legal history that fits a file is small
-pub small : TakesMore → (m : ℕ) (H : List Event) → SerialsAreCounted → IsLegal m H → journal_end H < MAX_FILE → IsSmall H
+pub small : TakesMore → (m : ℕ) (H : List Event) → SerialsAreCounted → IsLegal m H → journal_end H < MAX_FILE + MAX_FILE → IsSmall H
 small longer m H law legal fits =
     let changes = changes_fit longer H in
     let events = events_fit longer H in
@@ -106,5 +106,5 @@ small longer m H law legal fits =
     }
 
 -- a history that fits a file has few events
-pub small_end : TakesMore → (H : List Event) → journal_end H < MAX_FILE → length H < 4611686018427387903
+pub small_end : TakesMore → (H : List Event) → journal_end H < MAX_FILE + MAX_FILE → length H < 4611686018427387903
 small_end longer H fits = let events = events_fit longer H in omega (arith, events, fits)

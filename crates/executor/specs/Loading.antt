@@ -53,7 +53,7 @@ pub record IsJudged (j : Judged) (l : Progress) (H : List Event) : Type 0 where
   pub legal : IsLegal l.manager H
   pub events : AllByRecursion IsEvent H
   pub count : j.bad ≡ None → l.count ≡ length H
-  pub end : j.bad ≡ None → l.end ≡ journal_end H
+  pub end : j.bad ≡ None → l.total ≡ journal_end H
 
 -- the records read so far, as they were judged
 pub record JudgesSoFar (j : Judged) (l : Progress) (H : List Event) (s : SiteState) : Type 0 where

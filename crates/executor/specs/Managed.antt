@@ -1,5 +1,5 @@
 -- What a manager stands for: its journal, and the tables of the history of the events in it.
-use Rattle.std.specs.Prelude.{◌≡◌, ◌<◌, ℕ, Bool, true, false, List, None, length, not}
+use Rattle.std.specs.Prelude.{◌≡◌, ◌<◌, ◌+◌, ℕ, Bool, true, false, List, None, length, not}
 use Rattle.std.specs.List.{AllByRecursion}
 use Rattle.event_codec.specs.Typed.{TypedEvent}
 use Rattle.event_codec.specs.Valid.{IsEvent}
@@ -26,12 +26,13 @@ pub record Managed : Type 0 where
 abbrev pub managed : Ledger → Tables → Managed
 managed ledger tables = record { ledger = ledger; tables = tables }
 
--- the history is legal, and the ledger, unless it is closed, counts its events and their bytes
+-- The history is legal, and the ledger, unless it is closed, counts its events and their bytes: its gate and what is
+-- saved before it come to the history's end.
 pub record IsKept (ledger : Ledger) (history : List Event) : Type 0 where
   pub legal : IsLegal ledger.manager history
   pub events : AllByRecursion IsEvent history
   pub count : ledger.closed ≡ false → ledger.count ≡ length history
-  pub end : ledger.closed ≡ false → ledger.end ≡ journal_end history
+  pub end : ledger.closed ≡ false → ledger.end + ledger.saved ≡ journal_end history
 
 -- the manager keeps this history: it is kept by the ledger, and the tables are its tables
 pub record Keeps (m : Managed) (H : List Event) : Type 0 where
@@ -42,9 +43,9 @@ pub record Keeps (m : Managed) (H : List Event) : Type 0 where
 abbrev pub KeepsOne : Managed → Type 0
 KeepsOne m = (H : List Event) × Keeps m H
 
--- while it is open, its closed gate stands before the end of the file
+-- while it is open, its closed gate stands before the end of the file, and no more than a file is saved
 abbrev pub IsWithinFile : Ledger → Type 0
-IsWithinFile l = l.closed ≡ false → l.end < MAX_FILE
+IsWithinFile l = l.closed ≡ false → l.end + l.saved < MAX_FILE + MAX_FILE
 
 -- what the second manager was left with of the first: each history that it kept
 abbrev pub KeepsOn : Managed → Managed → Type 0

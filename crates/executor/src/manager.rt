@@ -190,7 +190,9 @@ impl<S: Site> Manager<S> {
         ensures refused { result ≢ Err WorkFault.Disk → OnErr result
             ((self.new.ledger ≡ self.old.ledger) × (site.new ≡ site.old)) }
         ensures keeps { OnErr result (KeepsOn self.old self.new) }
-        ensures room { (H : List Event) → Keeps self.old H → TellsRoom limit H e.now result }
+        ensures saved { self.new.ledger.saved ≡ self.old.ledger.saved }
+        ensures room { (H : List Event) → Keeps self.old H
+            → TellsRoom limit self.old.ledger.saved H e.now result }
         ensures asks { CommitAsks result (S.counts site.old) (S.counts site.new) }
         ensures counts { OnlyDiskFails (result ≡ Err WorkFault.Disk) (S.counts site.old) (S.counts site.new) }
     {
@@ -241,7 +243,9 @@ impl<S: Site> Manager<S> {
         ensures jobs { S.tells → KeepsJobs (S.state site.old) (S.state site.new) }
         ensures refused { result ≢ Err WorkFault.Disk → OnErr result ((self.new ≡ self.old) × (site.new ≡ site.old)) }
         ensures keeps { OnErr result (KeepsOn self.old self.new) }
-        ensures room { (H : List Event) → Keeps self.old H → TellsRoom limit H e.now result }
+        ensures saved { self.new.ledger.saved ≡ self.old.ledger.saved }
+        ensures room { (H : List Event) → Keeps self.old H
+            → TellsRoom limit self.old.ledger.saved H e.now result }
         ensures memory { result ≢ Err WorkFault.Memory }
         ensures quiet { HasNoNotice self.old → HasNoNotice self.new }
         ensures asks { CommitAsks result (S.counts site.old) (S.counts site.new) }
@@ -275,7 +279,9 @@ impl<S: Site> Manager<S> {
             (S.state site.new) }
         ensures refused { result ≢ Err WorkFault.Disk → OnErr result ((self.new ≡ self.old) × (site.new ≡ site.old)) }
         ensures keeps { OnErr result (KeepsOn self.old self.new) }
-        ensures room { (H : List Event) → Keeps self.old H → TellsRoom limit H e.now result }
+        ensures saved { self.new.ledger.saved ≡ self.old.ledger.saved }
+        ensures room { (H : List Event) → Keeps self.old H
+            → TellsRoom limit self.old.ledger.saved H e.now result }
         ensures memory { result ≢ Err WorkFault.Memory }
         ensures quiet { HasNoNotice self.old → HasNoNotice self.new }
         ensures intent { (t : Tag) → e.now.kind ≡ events.Intent t → HasNoNotice self.new }
@@ -303,6 +309,7 @@ impl<S: Site> Manager<S> {
             → IsReady S.tells self.new H (S.state site.new) }
         ensures keeps { KeepsOn self.old self.new }
         ensures number { self.new.ledger.manager ≡ self.old.ledger.manager }
+        ensures saved { self.new.ledger.saved ≡ self.old.ledger.saved }
         ensures bad { (k : ℕ) → result ≡ Err (ReadFault.BadRecord k) → k ≡ n }
         ensures closed { result ≡ Err ReadFault.Disk → self.new.ledger.closed ≡ true }
         ensures counts { FailsWhere (result ≡ Err ReadFault.Disk) (S.counts site.old) (S.counts site.new) }

@@ -1,6 +1,6 @@
 //! Opening a journal as a manager: each record is judged once, in order, as it is read, by the tables of those before
 //! it.
-ghost use Rattle.std.specs.Prelude.{◌≡◌, ◌<◌, List, [], IfOk, OnOk, None, true};
+ghost use Rattle.std.specs.Prelude.{◌≡◌, ◌<◌, ◌+◌, List, [], IfOk, OnOk, None, true};
 ghost use Rattle.journal_core.specs.Load.{IsBegun, Loads};
 ghost use Rattle.journal_core.specs.Asking.{FailsWhere};
 ghost use Rattle.journal_records.specs.declared.limits.TheConstants.{MAX_FILE};
@@ -36,7 +36,7 @@ pub fn judge_all<S: Site>(
     ensures told { S.tells → JudgesAll result loading.new (S.state site.old) (S.state site.new) }
     ensures ended { OnOk result (loading.new.ended ≡ true) }
     ensures manager { loading.new.manager ≡ loading.old.manager }
-    ensures within { loading.new.end < MAX_FILE }
+    ensures within { loading.new.total < MAX_FILE + MAX_FILE }
     ensures counts { FailsWhere (result ≡ Err OpenFault.Disk) (S.counts site.old) (S.counts site.new) }
 {
     records_add_up();

@@ -1,5 +1,5 @@
 //! Recording an event in a journal: it is spelled once, and it is on the disk before the tables follow it.
-ghost use Rattle.std.specs.Prelude.{◌≡◌, ◌≢◌, ◌≤◌, ◌<◌, List, length, IfErr, IfOk, OnOk, OnErr};
+ghost use Rattle.std.specs.Prelude.{◌≡◌, ◌≢◌, ◌≤◌, ◌<◌, ◌+◌, List, length, IfErr, IfOk, OnOk, OnErr};
 ghost use Rattle.event_codec.specs.Spell.{spelling};
 ghost use Rattle.event_codec.specs.Valid.{IsEvent};
 ghost use Rattle.event_codec.specs.Typed.{TypedEvent};
@@ -34,7 +34,8 @@ pub fn spell_within<S: Site>(
     requires within { limit ≤ MAX_FILE }
     ensures event { IsEvent e.now }
     ensures spelled { OnOk result (IsRecordOf buffer.new.kept e.now journal.now.end) }
-    ensures room { (H : List Event) → journal.now.end ≡ journal_end H → TellsRoom limit H e.now result }
+    ensures room { (H : List Event) → journal.now.end + journal.now.saved ≡ journal_end H
+        → TellsRoom limit journal.now.saved H e.now result }
     ensures memory { result ≢ Err WorkFault.Memory }
     ensures disk { result ≢ Err WorkFault.Disk }
 {
@@ -86,6 +87,7 @@ pub fn append_and_follow<S: Site>(
     ensures jobs { S.tells → KeepsJobs (S.state site.old) (S.state site.new) }
     ensures keeps_one { KeepsOne (managed journal.new tables.new) }
     ensures within { IsWithinFile journal.new }
+    ensures saved { journal.new.saved ≡ journal.old.saved }
     ensures keeps { OnErr result (KeepsOn (managed journal.old tables.old) (managed journal.new tables.new)) }
     ensures disk { IfErr result (λ why. why ≡ WorkFault.Disk) }
     ensures laid { tables.new.notice ≡ tables.old.notice }
@@ -94,6 +96,8 @@ pub fn append_and_follow<S: Site>(
 {
     faults_are_counted();
     records_add_up();
+    // How much is saved at most is needed to see that the history is a small one.
+    let _saved = journal.saved();
     journal.append(site, bytes)?;
     tables.apply(e);
     Ok(())

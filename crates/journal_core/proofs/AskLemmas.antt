@@ -9,7 +9,7 @@ use Rattle.journal_core.specs.declared.create.CreateFault.{CreateFault}
 use Rattle.journal_core.specs.declared.create.CreateFault.TheVariants as creating
 use Rattle.journal_core.specs.declared.journal.AppendFault.{AppendFault}
 use Rattle.journal_core.specs.declared.journal.AppendFault.TheVariants as appending
-use Rattle.journal_core.specs.Asking.{through, left_to_ask, AppendAsks, CreateAsks}
+use Rattle.journal_core.specs.Asking.{through, to_make, AppendAsks, CreateAsks}
 
 -- what was asked for in two parts
 pub all_asked-append : (xs ys : List Ask) (c : SiteCounts) → all_asked (xs ++ ys) c ≡ all_asked ys (all_asked xs c)
@@ -55,6 +55,26 @@ write_and_sync (Err fault) a m b is cause =
       done = tt;
       failed = record {
         made = write ∷ sync ∷ [];
+        rest = [];
+        front = refl;
+        some = omega arith;
+        counts =
+            cause.failed ∙ ap (λ (v : SiteCounts). disk_failed (asked sync v)) is;
+      };
+    }
+
+-- a cut that failed, and a cut and then a sync
+pub cut_stops : (a b : SiteCounts) → b ≡ disk_failed (asked cut a) → StopsIn (cut ∷ sync ∷ []) a b
+cut_stops a b is = record { made = cut ∷ []; rest = sync ∷ []; front = refl; some = omega arith; counts = is }
+
+pub cut_and_sync : {T E : Type 0} (r : Result T E) (a m b : SiteCounts) → m ≡ asked cut a → DiskCause (asked sync m) b r
+    → Asks (cut ∷ sync ∷ []) r a b
+cut_and_sync (Ok done) a m b is cause = record { done = cause.done ∙ ap (asked sync) is; failed = tt }
+cut_and_sync (Err fault) a m b is cause =
+    record {
+      done = tt;
+      failed = record {
+        made = cut ∷ sync ∷ [];
         rest = [];
         front = refl;
         some = omega arith;
@@ -129,6 +149,6 @@ append_fails (Err appending.Disk) a b asks = stops_fails (through 2) _ a b asks 
 
 -- the faults of the making of a file
 pub create_fails : {T : Type 0} (r : Result T CreateFault) (a b : SiteCounts) → CreateAsks r a b → OnlyDiskFails (r ≡ Err creating.Disk) a b
-create_fails (Ok done) a b asks = asked_fails (sync ∷ left_to_ask asks.0) _ a b asks.1 (λ wrong. cc wrong)
+create_fails (Ok done) a b asks = asked_fails (sync ∷ to_make asks.0) _ a b asks.1 (λ wrong. cc wrong)
 create_fails (Err creating.Taken) a b asks = asked_fails (sync ∷ []) _ a b asks (λ wrong. cc wrong)
-create_fails (Err creating.Disk) a b asks = stops_fails (sync ∷ left_to_ask asks.0) _ a b asks.1 refl
+create_fails (Err creating.Disk) a b asks = stops_fails (sync ∷ to_make asks.0) _ a b asks.1 refl

@@ -1,21 +1,19 @@
 -- The steps of the making of a journal file: each write with its sync.
 use Rattle.std.proofs.Common.{◌≡◌, ◌≢◌, lit<, ◌⊎◌, ◌∙◌, sym, ap, subst, inl, inr, ⊎_elim, ℕ, ◌+◌, ◌≤◌, true, false, List, [], ◌∷◌, ◌++◌}
-use Rattle.std.proofs.Common.{length, take, drop, get_or, Result, Ok, Err, OnOk, append_assoc, length-take, length-drop, refl, arith}
+use Rattle.std.proofs.Common.{length, take, drop, get_or, Result, Ok, Err, OnOk, IsErr, append_assoc, length-take, length-drop, refl, arith}
 use Rattle.std.specs.Prelude.{eqb}
-use Rattle.std.proofs.lemmas.Result.{on_ok_weaker}
+use Rattle.std.proofs.lemmas.Result.{on_ok_weaker, IfOk-from_err}
 use Rattle.std.proofs.lemmas.Bool.Decides.{eqb_tells}
-use Rattle.std.proofs.lemmas.List.{take-append-drop, take_at, drop_more, get_or-take, append-nil}
-use Rattle.site_traits.specs.Site.{SiteState, LeavesOnly, IsSettled, Same, Torn, Holds, FileStep, WritesThrough}
-use Rattle.site_traits.specs.Moments.{started, goes_on, followed, keeps_one, keeps_then}
+use Rattle.std.proofs.lemmas.List.{take-append-drop, take-take, take_at, drop_more, get_or-take, append-nil}
+use Rattle.site_traits.specs.Site.{Pair, SiteState, LeavesOnly, IsSettled, Same, Torn, Cut, Holds, FileStep, OnFile, WritesThrough, Syncs}
+use Rattle.site_traits.specs.Moments.{started, goes_on, followed, on_file-reads, keeps_one, keeps_then}
 use Rattle.journal_records.specs.File.{header, HasRecords}
 use Rattle.journal_core.specs.Header.{made, first, IsUnfinished}
 use Rattle.site_traits.specs.declared.site.DiskFailed.{DiskFailed}
 use Rattle.journal_core.specs.declared.create.CreateFault.{CreateFault}
 use Rattle.journal_core.specs.declared.create.CreateFault.TheVariants as fault
-use Rattle.journal_core.specs.declared.create.Stage.{Stage}
-use Rattle.journal_core.specs.declared.create.Stage.TheVariants as stage
 use Rattle.journal_core.specs.Load.{SyncsAndReads}
-use Rattle.journal_core.specs.Create.{Creates, IsMade, MayBeMade, IsMaking, IsBegun, IsEmpty, IsFilled, StageIs, StandsSo, Steps}
+use Rattle.journal_core.specs.Create.{Creates, IsMade, MayBeMade, IsMaking, IsBegun, IsEmpty, IsFilled, StandsSo, Steps}
 
 -- two things that hold where it succeeded
 on_ok_both : {T E A B C : Type 0} (r : Result T E) → (A → B → C) → OnOk r A → OnOk r B → OnOk r C
@@ -52,13 +50,25 @@ made_of m j begins rest =
     drop_more j 0 0 (omega arith) ∙ ap (λ v. v ∷ drop 1 j) begins
     ∙ ap (λ v. 86 ∷ v) (sym (take-append-drop 32 (drop 1 j)) ∙ ap (λ v. v ++ tail) rest) in
     record {
-      gate = 0;
-      tail = tail;
-      is = whole ∙ append_assoc (header m) (0 ∷ []) tail ∙ ap (λ v. v ++ 0 ∷ tail) (sym (append-nil (header m)));
-      closed = λ e. absurd (omega (arith, e));
-      each = λ k d lt. absurd (omega arith);
-      small = lit< tt;
+      batches = [];
+      file = record {
+        gate = 0;
+        tail = tail;
+        is = whole ∙ append_assoc (header m) (0 ∷ []) tail ∙ ap (λ v. v ++ 0 ∷ tail) (sym (append-nil (header m)));
+        closed = λ e. absurd (omega (arith, e));
+        each = λ k d lt. absurd (omega arith);
+        small = lit< tt;
+      };
+      are = refl;
     }
+
+-- all of a made file but its first byte is the rest of a header and more
+header_rest : (m : ℕ) (xs : List ℕ) → take 32 xs ≡ drop 1 (made m) → take 31 xs ≡ drop 1 (header m)
+unfolding header
+header_rest m xs is = sym (take-take 31 32 xs (omega arith)) ∙ ap (take 31) is
+
+filled_unfinished : (m : ℕ) (i : List ℕ) → IsFilled m i → IsUnfinished m i
+filled_unfinished m i filled = inr (inr (filled.not_made, header_rest m (drop 1 i) filled.rest))
 
 -- a file that begins with `v` is unfinished for every manager
 begun_unfinished : (m : ℕ) (i : List ℕ) → IsBegun i → IsUnfinished m i
@@ -95,12 +105,12 @@ pub finishes : {T E : Type 0} (m : ℕ) (r : Result T E) (a b : SiteState) → S
     → Steps m (HasRecords m []) r a b
 finishes m r a b stands call =
     step_by m 0 (86 ∷ []) (IsFilled m) (HasRecords m []) r a b stands call
-    (λ i filled. inr (inr (filled.not_made, filled.rest)))
+    (filled_unfinished m)
     (λ i j filled torn.
     let rest : take 32 (drop 1 j) ≡ drop 1 (made m) = ap (take 32) torn.after ∙ filled.rest in
     ⊎_elim
     (λ (is : (eqb (first j) 86 ≡ true) × (first j ≡ 86)). inr (made_of m j is.1 rest))
-    (λ (not : (eqb (first j) 86 ≡ false) × (first j ≢ 86)). inl (inr (inr (not.1, rest))))
+    (λ (not : (eqb (first j) 86 ≡ false) × (first j ≢ 86)). inl (filled_unfinished m j (record { not_made = not.1; rest = rest })))
     (eqb_tells (first j) 86))
     (λ i j filled holds. made_of m j (ap first holds) (ap (λ v. take 32 (drop 1 v)) holds ∙ filled.rest))
 
@@ -113,11 +123,37 @@ steps_then m so next r s a b c first second = record {
   jobs = keeps_then a b c first.jobs second.jobs;
 }
 
--- a file at a stage of its making is unfinished
-pub stage_unfinished : (m : ℕ) (found : Stage) (i : List ℕ) → StageIs m found i → IsUnfinished m i
-stage_unfinished m stage.Empty i at = inl at.short
-stage_unfinished m stage.Begun i at = inr (inl at.v)
-stage_unfinished m stage.Filled i at = inr (inr (at.not_made, at.rest))
+cut_unfinished : (m : ℕ) (i j : List ℕ) → IsUnfinished m i → Cut 1 i j → IsUnfinished m j
+cut_unfinished m i j unfinished cut =
+    ⊎_elim (λ (same : j ≡ i). let P : List ℕ → Type 0 = IsUnfinished m in subst P (sym same) unfinished)
+    (λ (less : j ≡ take 1 i). inl (omega (arith, ap length less, length-take 1 i)))
+    cut
+
+-- A cut of an unfinished file to one byte with its sync: a stop within leaves the file as it was, or one byte of it.
+cut_by : {T E : Type 0} (m : ℕ) (r : Result T E) (a b : SiteState) → StandsSo (IsUnfinished m) a → OnFile (Cut 1) a b
+    → OnOk r (StandsSo IsEmpty b) → Steps m IsEmpty r a b
+cut_by m r a b stands call done =
+    let unfinished : (q : Pair) → a.since a.moment q → IsUnfinished m q.image =
+    λ q left. let P : List ℕ → Type 0 = IsUnfinished m in subst P (sym (stands.settled.image q left)) stands.file in
+    record {
+      any_moment = goes_on (IsMaking m) (FileStep (Cut 1)) a a b
+          (started (IsMaking m) a (λ p left. record { file = inl (unfinished p left) }))
+          call.passes
+          (λ q p left step. record { file = inl (cut_unfinished m q.image p.image (unfinished q left) step.image) });
+      stands = done;
+      jobs = keeps_one (Cut 1) a b call;
+    }
+
+pub cut_failed : {T E : Type 0} (m : ℕ) (r : Result T E) (a b : SiteState) → StandsSo (IsUnfinished m) a → OnFile (Cut 1) a b → IsErr r
+    → Steps m IsEmpty r a b
+cut_failed m r a b stands call err = cut_by m r a b stands call (IfOk-from_err r (λ _. StandsSo IsEmpty b) err)
+
+pub shortens : {T E : Type 0} (m : ℕ) (r : Result T E) (a b c : SiteState) → StandsSo (IsUnfinished m) a → OnFile (Cut 1) a b
+    → b.image ≡ take 1 a.image → Syncs r b c → Steps m IsEmpty r a c
+shortens m r a b c stands call is syncs =
+    let one : length c.image ≤ 1 = (let e = ap length (syncs.same ∙ is) in omega (arith, length-take 1 a.image)) in
+    cut_by m r a c stands (on_file-reads (Cut 1) a b c call syncs.on_file (λ i. inl refl))
+    (on_ok_weaker r (λ (settled : IsSettled c). record { settled = settled; file = record { short = one } }) syncs.settled)
 
 -- reading leaves a file that may be made unfinished
 read_moments : (m : ℕ) (a b : SiteState) → SyncsAndReads a b → MayBeMade m a → LeavesOnly (IsMaking m) a b
@@ -161,12 +197,11 @@ creates_taken m a b read not = record {
 }
 
 -- the file was made, or a step of its making failed
-pub creates_steps : (m : ℕ) (found : Stage) (r : Result (Unit {0}) CreateFault) (s : Result (Unit {0}) DiskFailed) (a b c : SiteState)
-    → SyncsAndReads a b → StandsSo (StageIs m found) b
-    → Steps m (HasRecords m []) s b c → (r ≡ Err fault.Taken → ⊥) → (OnOk s (StandsSo (HasRecords m []) c)
+pub creates_steps : (m : ℕ) (r : Result (Unit {0}) CreateFault) (s : Result (Unit {0}) DiskFailed) (a b c : SiteState)
+    → SyncsAndReads a b → IsUnfinished m b.image → Steps m (HasRecords m []) s b c → (r ≡ Err fault.Taken → ⊥) → (OnOk s (StandsSo (HasRecords m []) c)
     → OnOk r (StandsSo (HasRecords m []) c)) → Creates m r a c
-creates_steps m found r s a b c read stands steps not_refused ok =
-    let unfinished = same_unfinished m a b read (stage_unfinished m found b.image stands.file) in
+creates_steps m r s a b c read standing steps not_refused ok =
+    let unfinished = same_unfinished m a b read standing in
     record {
       taken = λ e. absurd (not_refused e);
       kept = λ not. absurd (not unfinished);
@@ -178,3 +213,8 @@ creates_steps m found r s a b c read stands steps not_refused ok =
 pub made_rest : (m : ℕ) → take 32 (drop 1 (made m)) ≡ drop 1 (made m)
 unfolding header
 made_rest m = refl
+
+-- and the first 31 of these are the rest of the header
+pub header_in_made : (m : ℕ) → take 31 (drop 1 (made m)) ≡ drop 1 (header m)
+unfolding header
+header_in_made m = refl

@@ -5,81 +5,69 @@ use Rattle.std.specs.Int.{w32, to_be_bytes, from_be_bytes}
 use Rattle.std.proofs.lemmas.Nat.{from_be_bytes-to_be_bytes_4}
 use Rattle.std.proofs.lemmas.Bool.{cases_lt, cases_order}
 use Rattle.std.proofs.lemmas.List.{take_at, drop_at, get_or-take, get_or-drop}
-use Rattle.journal_records.specs.File.{header, cut_records, framed, blocks, size, IsRecord, HasRecords}
+use Rattle.journal_records.specs.File.{header, framed, blocks, gate_place, records_of_all, IsBatch, HasBatches}
+use Rattle.journal_records.specs.File.{HasRecords}
+use Rattle.journal_records.specs.Head.{IsOpen, IsBroken, BeginsWith}
+use Rattle.journal_records.proofs.HeadLemmas.{framed_length}
 use Rattle.journal_core.specs.Header.{MayStand}
-use Rattle.journal_records.specs.Head.{number, IsBody, IsBroken, BeginsWith}
 use Rattle.journal_core.specs.Exclusion.{IsWholeOrUnmade, IsWholeOrForeign, IsWholeOrBroken, IsWholeOnce, IsHeadedOrNot, IsForeignOnce}
 use Rattle.journal_core.specs.Exclusion.{BreaksOnce}
-use Rattle.journal_core.proofs.Records.{header_length, framed_length, each_first, each_rest, open_cut, records_of}
+use Rattle.journal_core.proofs.Records.{header_length, batch_first, batch_rest, first_once, records_of}
 use Rattle.journal_core.proofs.HeaderLemmas.{made_not_unmade}
 
--- these bytes, from place `end` of a file on, don't begin with a record
+-- these bytes, from place `end` of a file on, don't begin with a batch
 pub record HasNone (end : ℕ) (bytes : List ℕ) : Type 0 where
-  pub none : (r rest : List ℕ) → IsRecord r → end + 5 + length r < 268435456 → bytes ≡ framed r ++ rest → ⊥
+  pub none : (batch : List (List ℕ)) → IsOpen end batch bytes → ⊥
 
 -- nor do those behind a closed gate, and those where the file is broken
 closed_none : (end gate : ℕ) (tail : List ℕ) → gate ≢ 1 → HasNone end (gate ∷ tail)
 unfolding framed
-closed_none end gate tail closed = record { none = λ r rest one small is. closed (ap (λ v. get_or v 0 0) is) }
-
--- an open record is a body behind an open gate
-body_of : (end : ℕ) (body r rest : List ℕ) → IsRecord r → end + 5 + length r < 268435456 → 1 ∷ body ≡ framed r ++ rest → IsBody end body
-unfolding framed number
-body_of end body r rest one small is =
-    let four = to_be_bytes w32 (length r) in
-    let fits = one.fits in
-    let behind : body ≡ four ++ (r ++ rest) = ap (drop 1) is ∙ append_assoc four r rest in
-    let n : number body ≡ length r = ap (λ v. from_be_bytes w32 (take 4 v)) behind
-    ∙ ap (from_be_bytes w32) (take_at four (r ++ rest) 4 refl) ∙ from_be_bytes-to_be_bytes_4 (length r) (omega arith) in
-    let long : length body ≡ 4 + (length r + length rest) = ap length behind ∙ length-append four (r ++ rest)
-    ∙ ap (λ v. 4 + v) (length-append r rest) in
-    record { whole = omega (arith, n); some = omega (arith, n, one.some); fits = omega (arith, n); small = omega (arith, n) }
+closed_none end gate tail closed = record { none = λ batch there. closed (ap (λ v. get_or v 0 0) there.is) }
 
 broken_none : (end : ℕ) (bytes : List ℕ) → IsBroken end bytes → HasNone end bytes
 broken_none end bytes broken = record {
-  none = λ r rest one small is. ⊎_elim
-      (λ (nothing : bytes ≡ []). (let e = ap length (sym nothing ∙ is) in omega (arith, length-append (framed r) rest, framed_length r)))
-      (λ (open_gate : (body : List ℕ) × (bytes ≡ 1 ∷ body) × (IsBody end body → ⊥)).
-      open_gate.2 (body_of end open_gate.0 r rest one small (sym open_gate.1 ∙ is)))
+  none = λ batch there. ⊎_elim
+      (λ (nothing : bytes ≡ []). (let e = ap length (sym nothing ∙ there.is) in
+      omega (arith, length-append (framed batch) there.rest, framed_length batch)))
+      (λ (open_gate : (body : List ℕ) × (bytes ≡ 1 ∷ body) × ((some : List (List ℕ)) → IsOpen end some bytes → ⊥)).
+      open_gate.2 batch there)
       broken;
 }
 
--- the first of two open records is one, whatever stands behind it
-first_once : (r q x y : List ℕ) → IsRecord r → IsRecord q → framed r ++ x ≡ framed q ++ y → (r ≡ q) × (x ≡ y)
-unfolding cut_records
-first_once r q x y one other is =
-    let cut : r ∷ [] ≡ q ∷ [] = sym (open_cut 0 r x one) ∙ ap (cut_records 1) is ∙ open_cut 0 q y other in
-    let same : r ≡ q = ap (λ v. elim v as (λ _. List ℕ) [ [] ↦ [] | h ∷ t ↦ h ]) cut in
-    let len : length (framed r) ≡ length (framed q) = ap (λ v. length (framed v)) same in (
-      same,
-      sym (drop_at (framed r) x (length (framed r)) refl) ∙ ap (λ v. drop (length (framed r)) v) is
-          ∙ drop_at (framed q) y (length (framed r)) (sym len),
-    )
-
--- Two ways to cut bytes into records, up to where there is none, are one.
-pub same_records : (end : ℕ) (rs qs : List (List ℕ)) (a b : List ℕ) → All IsRecord rs → All IsRecord qs
-    → end + length (blocks rs) < 268435456 → end + length (blocks qs) < 268435456
-    → HasNone (end + length (blocks rs)) a → HasNone (end + length (blocks qs)) b → blocks rs ++ a ≡ blocks qs ++ b → (rs ≡ qs) × (a ≡ b)
-same_records end [] [] a b each others small low none none_too is = (refl, is)
-same_records end [] (q ∷ qs) a b each others small low none none_too is =
-    absurd (none.none q (blocks qs ++ b) (each_first q qs others) (omega (arith, length-append (framed q) (blocks qs), framed_length q))
-    (is ∙ append_assoc (framed q) (blocks qs) b))
-same_records end (r ∷ rs) [] a b each others small low none none_too is =
-    absurd (none_too.none r (blocks rs ++ a) (each_first r rs each) (omega (arith, length-append (framed r) (blocks rs), framed_length r))
-    (sym is ∙ append_assoc (framed r) (blocks rs) a))
-same_records end (r ∷ rs) (q ∷ qs) a b each others small low none none_too is =
-    let first = first_once r q (blocks rs ++ a) (blocks qs ++ b) (each_first r rs each) (each_first q qs others)
-    (sym (append_assoc (framed r) (blocks rs) a) ∙ is ∙ append_assoc (framed q) (blocks qs) b) in
-    let more : (xs : List ℕ) (ys : List (List ℕ)) → end + length (blocks (xs ∷ ys)) ≡ end + length (framed xs) + length (blocks ys) =
-    λ xs ys. omega (arith, length-append (framed xs) (blocks ys)) in
-    let same : length (framed r) ≡ length (framed q) = ap (λ v. length (framed v)) first.0 in
-    let P : ℕ → Type 0 = λ v. HasNone v a in
-    let Q : ℕ → Type 0 = λ v. HasNone v b in
-    let place : end + length (blocks (q ∷ qs)) ≡ end + length (framed r) + length (blocks qs) = omega (arith, more q qs) in
-    let rest = same_records (end + length (framed r)) rs qs a b (each_rest r rs each) (each_rest q qs others) (omega (arith, more r rs))
+-- Two ways to cut bytes into batches, up to where there is none, are one.
+pub same_batches : (end : ℕ) (bs cs : List (List (List ℕ))) (x y : List ℕ) → All IsBatch bs → All IsBatch cs
+    → end + length (blocks bs) < 268435456 → end + length (blocks cs) < 268435456
+    → HasNone (end + length (blocks bs)) x → HasNone (end + length (blocks cs)) y → blocks bs ++ x ≡ blocks cs ++ y → (bs ≡ cs) × (x ≡ y)
+same_batches end [] [] x y each others small low none none_too is = (refl, is)
+same_batches end [] (c ∷ cs) x y each others small low none none_too is =
+    let P : ℕ → Type 0 = λ v. HasNone v x in
+    absurd ((subst P (let e : end + 0 ≡ end = omega arith in e) none).none c (record {
+      one = batch_first c cs others;
+      rest = blocks cs ++ y;
+      is = is ∙ append_assoc (framed c) (blocks cs) y;
+      small = omega (arith, length-append (framed c) (blocks cs), framed_length c);
+    }))
+same_batches end (b ∷ bs) [] x y each others small low none none_too is =
+    let P : ℕ → Type 0 = λ v. HasNone v y in
+    absurd ((subst P (let e : end + 0 ≡ end = omega arith in e) none_too).none b (record {
+      one = batch_first b bs each;
+      rest = blocks bs ++ x;
+      is = sym is ∙ append_assoc (framed b) (blocks bs) x;
+      small = omega (arith, length-append (framed b) (blocks bs), framed_length b);
+    }))
+same_batches end (b ∷ bs) (c ∷ cs) x y each others small low none none_too is =
+    let first = first_once b c (blocks bs ++ x) (blocks cs ++ y) (batch_first b bs each) (batch_first c cs others)
+    (sym (append_assoc (framed b) (blocks bs) x) ∙ is ∙ append_assoc (framed c) (blocks cs) y) in
+    let more : (d : List (List ℕ)) (ds : List (List (List ℕ))) → end + length (blocks (d ∷ ds)) ≡ end + length (framed d) + length (blocks ds) =
+    λ d ds. omega (arith, length-append (framed d) (blocks ds)) in
+    let same : length (framed b) ≡ length (framed c) = ap (λ v. length (framed v)) first.0 in
+    let P : ℕ → Type 0 = λ v. HasNone v x in
+    let Q : ℕ → Type 0 = λ v. HasNone v y in
+    let place : end + length (blocks (c ∷ cs)) ≡ end + length (framed b) + length (blocks cs) = omega (arith, more c cs) in
+    let rest = same_batches (end + length (framed b)) bs cs x y (batch_rest b bs each) (batch_rest c cs others) (omega (arith, more b bs))
     (omega arith)
-    (subst P (more r rs) none) (subst Q place none_too) first.1 in
-    (ap (λ v. v ∷ rs) first.0 ∙ ap (λ v. q ∷ v) rest.0, rest.1)
+    (subst P (more b bs) none) (subst Q place none_too) first.1 in
+    (ap (λ v. v ∷ bs) first.0 ∙ ap (λ v. c ∷ v) rest.0, rest.1)
 
 -- what stands behind the header
 behind_header : (m : ℕ) (x image : List ℕ) → image ≡ header m ++ x → drop 32 image ≡ x
@@ -89,17 +77,18 @@ behind_header m x image is = ap (drop 32) is ∙ drop_at (header m) x 32 (header
 front_header : (m : ℕ) (x image : List ℕ) → image ≡ header m ++ x → take 32 image ≡ header m
 front_header m x image is = ap (take 32) is ∙ take_at (header m) x 32 (header_length m)
 
--- a whole file and one that breaks: the records, and what stands behind them
-pub same_behind : (m k : ℕ) (rs qs : List (List ℕ)) (a b image : List ℕ) → BeginsWith m rs a image → BeginsWith k qs b image
-    → HasNone (size rs) a → HasNone (size qs) b → (rs ≡ qs) × (a ≡ b)
-same_behind m k rs qs a b image one other none none_too =
-    same_records 32 rs qs a b one.each other.each one.small other.small none none_too
-    (sym (behind_header m (blocks rs ++ a) image (one.is ∙ append_assoc (header m) (blocks rs) a))
-    ∙ behind_header k (blocks qs ++ b) image (other.is ∙ append_assoc (header k) (blocks qs) b))
+-- a whole file and one that breaks: the batches, and what stands behind them
+pub same_behind : (m k : ℕ) (bs cs : List (List (List ℕ))) (x y image : List ℕ) → BeginsWith m bs x image → BeginsWith k cs y image
+    → HasNone (gate_place bs) x → HasNone (gate_place cs) y → (bs ≡ cs) × (x ≡ y)
+same_behind m k bs cs x y image one other none none_too =
+    same_batches 32 bs cs x y one.each other.each one.small other.small none none_too
+    (sym (behind_header m (blocks bs ++ x) image (one.is ∙ append_assoc (header m) (blocks bs) x))
+    ∙ behind_header k (blocks cs ++ y) image (other.is ∙ append_assoc (header k) (blocks cs) y))
 
--- a whole file begins with its records
-pub begins_of : (m : ℕ) (rs : List (List ℕ)) (image : List ℕ) → (has : HasRecords m rs image) → BeginsWith m rs (has.gate ∷ has.tail) image
-begins_of m rs image has = record { is = has.is; each = has.each; small = has.small }
+-- a whole file begins with its batches
+pub begins_of : (m : ℕ) (bs : List (List (List ℕ))) (image : List ℕ) → (has : HasBatches m bs image)
+    → BeginsWith m bs (has.gate ∷ has.tail) image
+begins_of m bs image has = record { is = has.is; each = has.each; small = has.small }
 
 -- two headers of one file are of one manager
 pub same_manager : (m n : ℕ) (image : List ℕ) → m < 4294967296 → n < 4294967296 → take 32 image ≡ header m → take 32 image ≡ header n
@@ -135,8 +124,10 @@ headed_stands m k image is lt =
     }
 
 pub whole_front : (m : ℕ) (rs : List (List ℕ)) (image : List ℕ) → HasRecords m rs image → take 32 image ≡ header m
-whole_front m rs image has = front_header m (blocks rs ++ has.gate ∷ has.tail) image
-    (has.is ∙ append_assoc (header m) (blocks rs) (has.gate ∷ has.tail))
+whole_front m rs image has =
+    let file = has.file in
+    front_header m (blocks has.batches ++ file.gate ∷ file.tail) image
+    (file.is ∙ append_assoc (header m) (blocks has.batches) (file.gate ∷ file.tail))
 
 pub headed_or_not : IsHeadedOrNot
 headed_or_not m image has = (
@@ -153,11 +144,14 @@ whole_or_foreign m place rs image has foreign =
 
 pub whole_or_broken : IsWholeOrBroken
 whole_or_broken m k n rs image has broken =
-    let same = same_behind m k rs broken.rs (has.gate ∷ has.tail) broken.rest image (begins_of m rs image has) broken.begins
-    (closed_none (size rs) has.gate has.tail has.closed) (broken_none (size broken.rs) broken.rest broken.broken) in
+    let file = has.file in
+    let same = same_behind m k has.batches broken.batches (file.gate ∷ file.tail) broken.rest image (begins_of m has.batches image file)
+    broken.begins (closed_none (gate_place has.batches) file.gate file.tail file.closed)
+    (broken_none (gate_place broken.batches) broken.rest broken.broken) in
     ⊎_elim (λ (nothing : broken.rest ≡ []). (let e = ap length (same.1 ∙ nothing) in omega arith))
-    (λ (open_gate : (body : List ℕ) × (broken.rest ≡ 1 ∷ body) × (IsBody (size broken.rs) body → ⊥)). has.closed
-    (ap (λ v. get_or v 0 0) (same.1 ∙ open_gate.1)))
+    (λ (open_gate : (body : List ℕ) × (broken.rest ≡ 1 ∷ body)
+    × ((some : List (List ℕ)) → IsOpen (gate_place broken.batches) some broken.rest → ⊥)).
+    file.closed (ap (λ v. get_or v 0 0) (same.1 ∙ open_gate.1)))
     broken.broken
 
 pub whole_once : IsWholeOnce
@@ -176,6 +170,6 @@ foreign_once p q image one other =
 
 pub breaks_once : BreaksOnce
 breaks_once m k n i image one other =
-    let same = same_behind m k one.rs other.rs one.rest other.rest image one.begins other.begins
-    (broken_none (size one.rs) one.rest one.broken) (broken_none (size other.rs) other.rest other.broken) in
-    one.place ∙ ap (λ v. length v + 1) same.0 ∙ sym other.place
+    let same = same_behind m k one.batches other.batches one.rest other.rest image one.begins other.begins
+    (broken_none (gate_place one.batches) one.rest one.broken) (broken_none (gate_place other.batches) other.rest other.broken) in
+    one.place ∙ ap (λ v. length (records_of_all v) + 1) same.0 ∙ sym other.place

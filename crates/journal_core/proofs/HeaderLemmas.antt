@@ -8,7 +8,7 @@ use Rattle.std.proofs.lemmas.List.{take-take, drop-drop, drop-take, get_or-take,
 use Rattle.std.proofs.Math.Seq.{take-add}
 use Rattle.journal_records.specs.File.{header}
 use Rattle.journal_records.proofs.ByteLemmas.{below_take, below_drop}
-use Rattle.journal_core.specs.Header.{made, first, IsUnfinished, MayStand, IsForeign, HasHeader}
+use Rattle.journal_core.specs.Header.{first, IsUnfinished, MayStand, IsForeign, HasHeader}
 
 -- a test that isn't false is true
 pub not_false : (b : Bool) → not b ≡ false → b ≡ true
@@ -22,7 +22,7 @@ not_true false h k = false≢true k
 
 -- what stands behind the first byte of every header, up to its number
 abbrev pub name : List ℕ
-name = 78 ∷ 70 ∷ 77 ∷ 45 ∷ 76 ∷ 67 ∷ 77 ∷ 1 ∷ []
+name = 78 ∷ 70 ∷ 77 ∷ 45 ∷ 76 ∷ 67 ∷ 77 ∷ 2 ∷ []
 
 -- the four bytes of a number are those of their number
 pub number_back : (bytes : List ℕ) (k : ℕ) → ((i : ℕ) → get_or bytes i 0 < 256) → k + 4 ≤ length bytes
@@ -32,37 +32,37 @@ number_back bytes k small room =
     let many : length four ≡ 4 = (let a = length-take 4 (drop k bytes) in let b = length-drop k bytes in omega arith) in
     sym (be_bytes_4 four (from_be_bytes w32 four) many (below_take 4 (drop k bytes) (below_drop k bytes small)) refl)
 
--- a rest with these parts is that of a made file
-pub rest_from_parts : (front : List ℕ) → ((i : ℕ) → get_or front i 0 < 256) → length front ≡ 33 → take 8 (drop 1 front) ≡ name
-    → take 20 (drop 13 front) ≡ replicate 20 0
-    → (m : ℕ) × (take 32 (drop 1 front) ≡ drop 1 (made m))
+-- a rest with these parts is that of a header
+pub rest_from_parts : (front : List ℕ) → ((i : ℕ) → get_or front i 0 < 256) → length front ≡ 32 → take 8 (drop 1 front) ≡ name
+    → take 19 (drop 13 front) ≡ replicate 19 0
+    → (m : ℕ) × (take 31 (drop 1 front) ≡ drop 1 (header m))
 unfolding header
 rest_from_parts front small len is zeros =
     let m = from_be_bytes w32 (take 4 (drop 9 front)) in
     let rest = drop 1 front in
-    let split : take 32 rest ≡ take 8 rest ++ (take 4 (drop 8 rest) ++ take 20 (drop 12 rest)) =
-    take-add 8 24 rest ∙ ap (λ v. take 8 rest ++ v) (take-add 4 20 (drop 8 rest)
-    ∙ ap (λ v. take 4 (drop 8 rest) ++ take 20 v) (drop-drop 4 8 rest)) in
+    let split : take 31 rest ≡ take 8 rest ++ (take 4 (drop 8 rest) ++ take 19 (drop 12 rest)) =
+    take-add 8 23 rest ∙ ap (λ v. take 8 rest ++ v) (take-add 4 19 (drop 8 rest)
+    ∙ ap (λ v. take 4 (drop 8 rest) ++ take 19 v) (drop-drop 4 8 rest)) in
     let nine : drop 8 rest ≡ drop 9 front = drop-drop 8 1 front in
     let thirteen : drop 12 rest ≡ drop 13 front = drop-drop 12 1 front in (
       m,
-      split ∙ ap (λ v. v ++ (take 4 (drop 8 rest) ++ take 20 (drop 12 rest))) is
-          ∙ ap (λ v. name ++ (take 4 v ++ take 20 (drop 12 rest))) nine
-          ∙ ap (λ v. name ++ (v ++ take 20 (drop 12 rest))) (number_back front 9 small (omega arith))
-          ∙ ap (λ v. name ++ (to_be_bytes w32 m ++ take 20 v)) thirteen
+      split ∙ ap (λ v. v ++ (take 4 (drop 8 rest) ++ take 19 (drop 12 rest))) is
+          ∙ ap (λ v. name ++ (take 4 v ++ take 19 (drop 12 rest))) nine
+          ∙ ap (λ v. name ++ (v ++ take 19 (drop 12 rest))) (number_back front 9 small (omega arith))
+          ∙ ap (λ v. name ++ (to_be_bytes w32 m ++ take 19 v)) thirteen
           ∙ ap (λ v. name ++ (to_be_bytes w32 m ++ v)) zeros,
     )
 
--- and the rest of a made file has these parts
-pub parts_from_rest : (m : ℕ) (front : List ℕ) → take 32 (drop 1 front) ≡ drop 1 (made m)
-    → (33 ≤ length front) × (take 8 (drop 1 front) ≡ name) × (take 20 (drop 13 front) ≡ replicate 20 0)
+-- and the rest of a header has these parts
+pub parts_from_rest : (m : ℕ) (front : List ℕ) → take 31 (drop 1 front) ≡ drop 1 (header m)
+    → (32 ≤ length front) × (take 8 (drop 1 front) ≡ name) × (take 19 (drop 13 front) ≡ replicate 19 0)
 unfolding header
 parts_from_rest m front is =
     let rest = drop 1 front in
-    let len : length (take 32 rest) ≡ 32 = ap length is in (
-      omega (arith, length-take 32 rest, length-drop 1 front),
-      sym (take-take 8 32 rest (omega arith)) ∙ ap (take 8) is,
-      ap (take 20) (sym (drop-drop 12 1 front)) ∙ sym (drop-take 12 20 rest) ∙ ap (drop 12) is,
+    let len : length (take 31 rest) ≡ 31 = ap length is in (
+      omega (arith, length-take 31 rest, length-drop 1 front),
+      sym (take-take 8 31 rest (omega arith)) ∙ ap (take 8) is,
+      ap (take 19) (sym (drop-drop 12 1 front)) ∙ sym (drop-take 12 19 rest) ∙ ap (drop 12) is,
     )
 
 -- A file of which each byte of the header may stand has a header.
@@ -100,20 +100,20 @@ made_not_unmade m n image is unfinished =
     let len : length (take 32 image) ≡ 32 = ap length is in
     let begins : first image ≡ 86 = sym (get_or-take 32 image 0 0 (omega arith)) ∙ ap (λ v. get_or v 0 0) is in
     ⊎_elim (λ (short : length image ≤ 1). omega (arith, length-take 32 image))
-    (λ (rest : (first image ≡ 118) ⊎ ((first image ≡ 86 → ⊥) × (take 32 (drop 1 image) ≡ drop 1 (made n)))).
-    ⊎_elim (λ (v : first image ≡ 118). omega (arith, v)) (λ (other : (first image ≡ 86 → ⊥) × (take 32 (drop 1 image) ≡ drop 1 (made n))).
+    (λ (rest : (first image ≡ 118) ⊎ ((first image ≡ 86 → ⊥) × (take 31 (drop 1 image) ≡ drop 1 (header n)))).
+    ⊎_elim (λ (v : first image ≡ 118). omega (arith, v)) (λ (other : (first image ≡ 86 → ⊥) × (take 31 (drop 1 image) ≡ drop 1 (header n))).
     other.0 begins) rest)
     unfinished
 
--- A file that begins neither with `v` nor with `V`, and not with the rest of a made file, is foreign at its first byte.
+-- A file that begins neither with `v` nor with `V`, and not with the rest of a header, is foreign at its first byte.
 pub foreign_at_first : (front : List ℕ) → 2 ≤ length front → (first front ≡ 118 → ⊥) → (first front ≡ 86 → ⊥)
-    → (((m : ℕ) × (take 32 (drop 1 front) ≡ drop 1 (made m))) → ⊥)
+    → (((m : ℕ) × (take 31 (drop 1 front) ≡ drop 1 (header m))) → ⊥)
     → IsForeign 0 front
 unfolding header
 foreign_at_first front long not_v not_V not_rest = record {
   not_unmade = λ unmade. ⊎_elim (λ (short : length front ≤ 1). omega (arith, short))
-      (λ (rest : (first front ≡ 118) ⊎ ((first front ≡ 86 → ⊥) × (take 32 (drop 1 front) ≡ drop 1 (made unmade.0)))).
-      ⊎_elim not_v (λ (other : (first front ≡ 86 → ⊥) × (take 32 (drop 1 front) ≡ drop 1 (made unmade.0))). not_rest (unmade.0, other.1))
+      (λ (rest : (first front ≡ 118) ⊎ ((first front ≡ 86 → ⊥) × (take 31 (drop 1 front) ≡ drop 1 (header unmade.0)))).
+      ⊎_elim not_v (λ (other : (first front ≡ 86 → ⊥) × (take 31 (drop 1 front) ≡ drop 1 (header unmade.0))). not_rest (unmade.0, other.1))
       rest)
       unmade.1;
   differs = record {

@@ -4,9 +4,9 @@ pub mod Frame
 pub mod FrontLemmas
 pub mod HeaderLemmas
 pub mod Records
+pub mod ReadingLemmas
 pub mod LoadLemmas
 pub mod CreateLemmas
 pub mod Excluding
 pub mod BackLemmas
 pub mod MarkLemmas
-pub mod EveryLemmas

@@ -1,11 +1,9 @@
 -- What the calls of a journal ask of its site, and which faults they count (own rule).
-use Rattle.std.specs.Prelude.{◌≡◌, ℕ, zero, suc, List, [], ◌∷◌, Result, Ok, Err}
+use Rattle.std.specs.Prelude.{◌≡◌, ℕ, zero, suc, Bool, true, false, List, [], ◌∷◌, Result, Ok, Err}
 use Rattle.site_traits.specs.Counts.{SiteCounts, Ask, asked, all_asked, disk_failed, OnlyDiskFails, StopsIn}
-use Rattle.site_traits.specs.Counts.Ask.{write, sync}
+use Rattle.site_traits.specs.Counts.Ask.{write, cut, sync}
 use Rattle.journal_core.specs.declared.create.CreateFault.{CreateFault}
 use Rattle.journal_core.specs.declared.create.CreateFault.TheVariants as creating
-use Rattle.journal_core.specs.declared.create.Stage.{Stage}
-use Rattle.journal_core.specs.declared.create.Stage.TheVariants as stage
 use Rattle.journal_core.specs.declared.journal.AppendFault.{AppendFault}
 use Rattle.journal_core.specs.declared.journal.AppendFault.TheVariants as appending
 
@@ -26,18 +24,18 @@ AppendAsks (Ok done) a b = b ≡ all_asked (through 2) a
 AppendAsks (Err (appending.Full end more)) a b = b ≡ a
 AppendAsks (Err appending.Disk) a b = StopsIn (through 2) a b
 
--- what is left to ask for at this stage of the making of a file
-abbrev pub left_to_ask : Stage → List Ask
-left_to_ask stage.Empty = through 3
-left_to_ask stage.Begun = through 2
-left_to_ask stage.Filled = through 1
+-- what the making of an unfinished file asks for behind its first sync, by whether it is longer than a byte and is cut
+abbrev pub to_make : Bool → List Ask
+to_make true = cut ∷ sync ∷ through 3
+to_make false = through 3
 
--- What the making of a file asks of the site: a sync, and from one to three times a write and then a sync, or the front
--- of these up to a call that failed; the sync alone where the file is taken.
+-- What the making of a file asks of the site: a sync, a cut and a sync where the file is longer than a byte, and three
+-- times a write and then a sync, or the front of these up to a call that failed; the first sync alone where the file is
+-- taken.
 abbrev pub CreateAsks : {T : Type 0} → Result T CreateFault → SiteCounts → SiteCounts → Type 0
-CreateAsks (Ok done) a b = (stage : Stage) × (b ≡ all_asked (sync ∷ left_to_ask stage) a)
+CreateAsks (Ok done) a b = (longer : Bool) × (b ≡ all_asked (sync ∷ to_make longer) a)
 CreateAsks (Err creating.Taken) a b = b ≡ asked sync a
-CreateAsks (Err creating.Disk) a b = (stage : Stage) × StopsIn (sync ∷ left_to_ask stage) a b
+CreateAsks (Err creating.Disk) a b = (longer : Bool) × StopsIn (sync ∷ to_make longer) a b
 
 -- an append counts one disk fault where it answers one, and none else
 abbrev pub AppendsCount : Type 0

@@ -1,33 +1,27 @@
 -- The reading back of one record (own rule, docs/JOURNAL.md).
-use Rattle.std.specs.Prelude.{◌≡◌, ◌≤◌, ℕ, ◌+◌, ◌-◌, List, [], ◌++◌, length, take, drop, get_or, Option, Some, None}
-use Rattle.std.specs.Prelude.{Result, Err, OnOk}
+use Rattle.std.specs.Prelude.{◌≡◌, ◌⊎◌, ◌≤◌, ◌<◌, All, ℕ, ◌+◌, ◌-◌, List, [], length, get_or, Result, Err, OnOk}
 use Rattle.site_traits.specs.Site.{SiteState, Reads}
-use Rattle.vnfm_base.specs.declared.limits.TheConstants.{MAX_RECORD}
 use Rattle.journal_core.specs.declared.back.BackFault.{BackFault}
 use Rattle.journal_core.specs.declared.back.BackFault.TheVariants as fault
-use Rattle.journal_records.specs.File.{framed, records, size, IsRecord, HasRecords}
-use Rattle.journal_core.specs.Journal.{Ledger, Stands}
+use Rattle.journal_records.specs.File.{records, records_of_all, gate_place, HasBatches}
+use Rattle.journal_records.specs.Reading.{Reading, standing_at}
+use Rattle.journal_core.specs.declared.marks.Mark.{Mark}
+use Rattle.journal_core.specs.Marks.{IsMark}
+use Rattle.journal_core.specs.Journal.{Ledger, Stands, IsReadUpTo}
 
--- an open record of these bytes stands at this place and ends at or before `end`
-pub record HasAt (place end : ℕ) (bytes image : List ℕ) : Type 0 where
-  pub one : IsRecord bytes
-  pub rest : List ℕ
-  pub is : drop place image ≡ framed bytes ++ rest
-  pub whole : place + 5 + length bytes ≤ end
-
--- a record of this size at this place ends at or before `end`
-pub record FitsAt (place end n : ℕ) : Type 0 where
-  pub some : 1 ≤ n
-  pub fits : n ≤ MAX_RECORD
-  pub whole : place + 5 + n ≤ end
-
--- the file is whole, its closed gate stands at `end`, and it has a record n, from 1
-pub record HasRecord (n end : ℕ) (image : List ℕ) : Type 0 where
+-- the reader stands behind the first so many records of a whole file of these batches, whose closed gate stands at `end`,
+-- and it has so many more
+pub record CanGive (bs : List (List (List ℕ))) (given many : ℕ) (r : Reading) (end : ℕ) (image : List ℕ) : Type 0 where
   pub manager : ℕ
-  pub file : HasRecords manager (records image) image
-  pub some : 1 ≤ n
-  pub within : n ≤ length (records image)
-  pub gate : end ≡ size (records image)
+  pub file : HasBatches manager bs image
+  pub gate : end ≡ gate_place bs
+  pub reading : IsReadUpTo bs given r end image
+  pub there : given + many ≤ length (records_of_all bs)
+
+-- it stands behind so many records now, and the last of these is the one that was given last
+pub record HasGiven (bs : List (List (List ℕ))) (given : ℕ) (r : Reading) (end : ℕ) (image : List ℕ) : Type 0 where
+  pub reading : IsReadUpTo bs given r end image
+  pub last : r.record_bytes ≡ get_or (records_of_all bs) (given - 1) []
 
 -- What reading record n back does: it only reads, and Ok gives that record. The file has it, so it isn't missed.
 pub record ReadsBack (n : ℕ) (result : Result (Unit {0}) BackFault) (new : Ledger) (a b : SiteState) : Type 0 where
@@ -41,9 +35,13 @@ pub record KeepsRecords (old new : Ledger) : Type 0 where
   pub manager : new.manager ≡ old.manager
   pub count : new.count ≡ old.count
   pub end : new.end ≡ old.end
+  pub saved : new.saved ≡ old.saved
 
--- record n of these, its place and its size, at the front of a buffer
-abbrev pub IsFound : ℕ → List (List ℕ) → Option (ℕ × ℕ) → List ℕ → Type 0
-IsFound n rs None buffer = ⊥
-IsFound n rs (Some found) buffer = (found.0 ≡ size (take (n - 1) rs)) × (found.1 ≡ length (get_or rs (n - 1) []))
-    × (take found.1 buffer ≡ get_or rs (n - 1) [])
+-- The journal's reader stands before record n then: where it stood, or at one of its places, or at the first gate. The
+-- rest of the journal is as it was.
+pub record GoesBefore (n : ℕ) (old new : Ledger) : Type 0 where
+  pub before : new.behind < n
+  pub same : new ≡ record old { back = new.back; behind = new.behind; reading = new.reading }
+  pub stands : ((new.behind ≡ old.behind) × (new.reading ≡ old.reading))
+      ⊎ ((m : Mark) × (new.behind ≡ m.before) × (new.reading ≡ standing_at m.place)
+      × ((bs : List (List (List ℕ))) → All (IsMark bs) old.marks → IsMark bs m))

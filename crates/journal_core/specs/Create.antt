@@ -3,8 +3,6 @@ use Rattle.std.specs.Prelude.{◌≡◌, ◌⊎◌, ◌≤◌, ℕ, List, [], le
 use Rattle.site_traits.specs.Site.{Pair, SiteState, LeavesOnly, IsSettled, KeepsJobs}
 use Rattle.journal_core.specs.declared.create.CreateFault.{CreateFault}
 use Rattle.journal_core.specs.declared.create.CreateFault.TheVariants as fault
-use Rattle.journal_core.specs.declared.create.Stage.{Stage}
-use Rattle.journal_core.specs.declared.create.Stage.TheVariants as stage
 use Rattle.journal_records.specs.File.{HasRecords}
 use Rattle.journal_core.specs.Header.{made, first, IsUnfinished}
 use Rattle.journal_core.specs.Load.{SyncsAndReads}
@@ -45,16 +43,10 @@ pub record IsBegun (image : List ℕ) : Type 0 where
 pub record IsEmpty (image : List ℕ) : Type 0 where
   pub short : length image ≤ 1
 
--- how far the making of the file has come
-abbrev pub StageIs : ℕ → Stage → List ℕ → Type 0
-StageIs manager stage.Empty image = IsEmpty image
-StageIs manager stage.Begun image = IsBegun image
-StageIs manager stage.Filled image = IsFilled manager image
-
--- the same, or the file isn't unfinished for this manager
-abbrev pub FoundIs : ℕ → Option Stage → List ℕ → Type 0
-FoundIs manager (Some found) image = StageIs manager found image
-FoundIs manager None image = ¬ (IsUnfinished manager image)
+-- the length of a file that is unfinished for this manager; or the file isn't
+abbrev pub LengthIs : ℕ → Option ℕ → List ℕ → Type 0
+LengthIs manager (Some len) image = IsUnfinished manager image × (len ≡ length image)
+LengthIs manager None image = ¬ (IsUnfinished manager image)
 
 -- nothing is pending on the site, and its file is so
 pub record StandsSo (so : List ℕ → Type 0) (s : SiteState) : Type 0 where

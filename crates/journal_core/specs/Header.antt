@@ -11,10 +11,10 @@ abbrev pub first : List ℕ → ℕ
 first image = get_or image 0 0
 
 -- The file is unfinished for this manager: it has at most one byte, or begins with `v`, or begins with another byte
--- than `V` in front of what a made file of this manager with no record has.
+-- than `V` in front of the rest of a header of this manager.
 abbrev pub IsUnfinished : ℕ → List ℕ → Type 0
 IsUnfinished manager image = (length image ≤ 1) ⊎ (first image ≡ 118)
-    ⊎ ((¬ (first image ≡ 86)) × (take 32 (drop 1 image) ≡ drop 1 (made manager)))
+    ⊎ ((¬ (first image ≡ 86)) × (take 31 (drop 1 image) ≡ drop 1 (header manager)))
 
 -- the file is unfinished for some manager
 abbrev pub IsUnmade : List ℕ → Type 0

@@ -1,17 +1,15 @@
-// The reading back of one record, from the nearest place that the journal knows.
-ghost use Rattle.std.specs.Prelude.{◌≡◌, ◌≤◌, ◌<◌, ◌+◌, ◌-◌, ◌*◌, ◌++◌, List, ℕ, IfOk, IfSome, Some, Result, IsTrue};
-ghost use Rattle.std.specs.Prelude.{◌↔◌, length, take, drop, get_or, []};
+// The reading back of records, on from where the reader stands.
+ghost use Rattle.std.specs.Prelude.{◌≡◌, ◌≤◌, ◌<◌, ◌+◌, ◌-◌, ℕ, List, [], IfOk, length, get_or, true};
 ghost use Rattle.site_traits.specs.Counts.{DiskCause};
 ghost use Rattle.site_traits.specs.Site.{Reads};
-ghost use Rattle.journal_records.specs.File.{framed, records, size, IsRecord};
-ghost use Rattle.journal_records.specs.declared.limits.TheConstants.{MAX_RECORD};
-ghost use Rattle.journal_core.specs.Marks.{IsMark};
-ghost use Rattle.journal_core.specs.Back.{HasAt, FitsAt, HasRecord, IsFound};
+ghost use Rattle.journal_records.specs.File.{records_of_all};
+ghost use Rattle.journal_core.specs.Back.{CanGive, HasGiven};
 
-use crate::marks::Mark;
-use crate::through::bytes_at;
-use journal_records::MAX_RECORD;
+use journal_records::{Head, Reader};
 use site_traits::{DiskFailed, Site};
+
+/// Bytes that a reading back reads at once, or as many as the batch at hand lacks where that is more.
+pub const BACK: usize = 8_192;
 
 /// Why a record could not be read back.
 #[derive(Drop)]
@@ -32,103 +30,47 @@ impl From<DiskFailed> for BackFault {
     }
 }
 
-/// Reads record n, from 1, to the front of the buffer, and gives its place and its size; None where the file has none.
-pub fn record_from<S: Site>(
+/// Reads so many records on, the last of which the reader gives then, and says whether the file had them before `end`.
+pub fn give_many<S: Site>(
+    reader: &mut Reader,
     site: &mut S,
-    from: Mark,
-    n: u64,
     end: u64,
-    buffer: &mut [u8],
-) -> Result<Option<(u64, usize)>, DiskFailed>
-    requires before { from.before < n }
-    requires near { (n - 1 - from.before) * 196608 ≤ end }
-    requires small { end < 268435456 }
-    requires room { MAX_RECORD ≤ length buffer.old }
-    requires told { S.tells → HasRecord n end (S.state site.old).image
-        × IsMark (records (S.state site.old).image) from }
-
-    ensures record_is { S.tells → IfOk result (λ found. IsFound n (records (S.state site.old).image) found buffer.new) }
-    ensures fits { IfOk result (λ found. IfSome found (λ f. FitsAt f.0 end f.1)) }
-    ensures kept { length buffer.new ≡ length buffer.old }
+    many: u64,
+) -> Result<bool, DiskFailed>
+    requires some { 1 ≤ many }
+    requires told { S.tells → (bs : List (List (List ℕ))) × (given : ℕ)
+        × CanGive bs given many reader.old end (S.state site.old).image }
+    ensures given { S.tells → (bs : List (List (List ℕ))) (given : ℕ)
+        → CanGive bs given many reader.old end (S.state site.old).image
+        → IfOk result (λ all. (all ≡ true) × HasGiven bs (given + many) reader.new end (S.state site.new).image) }
     ensures told { S.tells → Reads (S.state site.old) (S.state site.new) }
     ensures cause { DiskCause (S.counts site.old) (S.counts site.new) result }
 {
-    let Some(place) = place_of(site, from, n, end)? else {
-        return Ok(None);
-    };
-    let Some(size) = size_at(site, place, end)? else {
-        return Ok(None);
-    };
-    bytes_at(site, place + 5, size as usize, buffer)?;
-    Ok(Some((place, size as usize)))
-}
-
-// The place of record n, or None where no record stands on the way there. It reads a head for each record between the
-// kept place and record n: by `near` at most 1,365 of them, one for each 196,608 bytes of the file.
-fn place_of<S: Site>(site: &mut S, from: Mark, n: u64, end: u64) -> Result<Option<u64>, DiskFailed>
-    requires before { from.before < n }
-    requires near { (n - 1 - from.before) * 196608 ≤ end }
-    requires small { end < 268435456 }
-    requires told { S.tells → HasRecord n end (S.state site.old).image
-        × IsMark (records (S.state site.old).image) from }
-
-    ensures place { S.tells → IfOk result (λ p. p ≡ Some (size (take (n - 1) (records (S.state site.old).image)))) }
-    ensures told { S.tells → Reads (S.state site.old) (S.state site.new) }
-    ensures cause { DiskCause (S.counts site.old) (S.counts site.new) result }
-{
-    let mut place = from.place;
-    for _ in from.before..n - 1 {
-        match size_at(site, place, end)? {
-            Some(size) => place += 5 + size as u64,
-            None => return Ok(None),
+    for _ in 0..many {
+        if !give_next(reader, site, end)? {
+            return Ok(false);
         }
     }
-    Ok(Some(place))
+    Ok(true)
 }
 
-// The size of the record at this place, or None where none stands there that ends at or before `end`.
-fn size_at<S: Site>(site: &mut S, place: u64, end: u64) -> Result<Option<u32>, DiskFailed>
-    requires small { end < 268435456 }
-    requires told { S.tells → (bytes : List ℕ) × HasAt place end bytes (S.state site.old).image }
-
-    ensures size { S.tells → (bytes : List ℕ) → HasAt place end bytes (S.state site.old).image
-        → IfOk result (λ n. n ≡ Some (length bytes)) }
-    ensures fits { IfOk result (λ found. IfSome found (FitsAt place end)) }
+// Reads one record on, and says whether the file had it before `end`.
+fn give_next<S: Site>(reader: &mut Reader, site: &mut S, end: u64) -> Result<bool, DiskFailed>
+    requires told { S.tells → (bs : List (List (List ℕ))) × (given : ℕ)
+        × CanGive bs given 1 reader.old end (S.state site.old).image }
+    ensures given { S.tells → (bs : List (List (List ℕ))) (given : ℕ)
+        → CanGive bs given 1 reader.old end (S.state site.old).image
+        → IfOk result (λ all. (all ≡ true) × HasGiven bs (given + 1) reader.new end (S.state site.new).image) }
     ensures told { S.tells → Reads (S.state site.old) (S.state site.new) }
     ensures cause { DiskCause (S.counts site.old) (S.counts site.new) result }
 {
-    if place >= end {
-        return Ok(None);
+    if reader.is_in_batch() {
+        reader.give();
+        return Ok(true);
     }
-    let mut head = [0u8; 5];
-    site.read_at(place, &mut head)?;
-    Ok(size_of(head, place, end))
-}
-
-// The size of the record that begins with these bytes.
-fn size_of(head: [u8; 5], place: u64, end: u64) -> Option<u32>
-    requires small { end < 268435456 }
-    requires before { place < end }
-    ensures size { (bytes rest : List ℕ) → IsRecord bytes → head ≡ take 5 (framed bytes ++ rest)
-        → place + 5 + length bytes ≤ end → result ≡ Some (length bytes) }
-    ensures fits { IfSome result (FitsAt place end) }
-{
-    if head[0] != 1 {
-        return None;
-    }
-    let size = u32::from_be_bytes([head[1], head[2], head[3], head[4]]);
-    if fits_at(place, end, size) {
-        Some(size)
-    } else {
-        None
-    }
-}
-
-// Whether a record of this size at this place ends at or before `end`.
-fn fits_at(place: u64, end: u64, size: u32) -> bool
-    requires small { end < 268435456 }
-    requires before { place < end }
-    ensures { IsTrue result ↔ FitsAt place end size }
-{
-    1 <= size && size as usize <= MAX_RECORD && place + 5 + size as u64 <= end
+    let Head::Open = reader.enter(site, end, BACK)? else {
+        return Ok(false);
+    };
+    reader.give();
+    Ok(true)
 }

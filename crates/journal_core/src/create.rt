@@ -1,12 +1,13 @@
 // The making of a journal file. Its first byte is written last, once all behind it is on the disk.
-ghost use Rattle.std.specs.Prelude.{◌≡◌, ◌≤◌, ◌<◌, ◌↔◌, [], ℕ, List, IsTrue, IfOk, OnOk, length, take, drop};
+ghost use Rattle.std.specs.Prelude.{◌≡◌, ◌≤◌, ◌<◌, ◌↔◌, [], ◌∷◌, ℕ, Bool, List, IsTrue, IfOk, OnOk, length, take, drop};
 ghost use Rattle.site_traits.specs.Counts.{Ask, asked, Asks, DiskCause};
+ghost use Rattle.site_traits.specs.Counts.Ask.{cut, sync};
 ghost use Rattle.site_traits.specs.Site.{KeepsJobs, Reads};
-ghost use Rattle.journal_records.specs.File.{HasRecords};
-ghost use Rattle.journal_core.specs.Header.{made};
+ghost use Rattle.journal_records.specs.File.{header, HasRecords};
+ghost use Rattle.journal_core.specs.Header.{made, IsUnfinished};
 ghost use Rattle.journal_core.specs.Load.{SyncsAndReads};
-ghost use Rattle.journal_core.specs.Asking.{CreateAsks, left_to_ask, through};
-ghost use Rattle.journal_core.specs.Create.{Creates, Steps, StageIs, FoundIs, StandsSo, IsEmpty, IsFilled, IsBegun};
+ghost use Rattle.journal_core.specs.Asking.{CreateAsks, to_make, through};
+ghost use Rattle.journal_core.specs.Create.{Creates, Steps, LengthIs, StandsSo, IsEmpty, IsFilled, IsBegun};
 
 use crate::journal::Journal;
 use crate::through::write_through;
@@ -31,17 +32,6 @@ impl From<DiskFailed> for CreateFault {
     }
 }
 
-/// How far the making of a file has come.
-#[derive(Clone, Copy)]
-pub enum Stage {
-    /// It has at most one byte.
-    Empty,
-    /// It begins with `v`.
-    Begun,
-    /// All but its first byte is that of a made file with no record.
-    Filled,
-}
-
 impl<S: Site> Journal<S> {
     /// Makes the file of this manager's journal, with no record, out of an unfinished one.
     ///
@@ -53,10 +43,10 @@ impl<S: Site> Journal<S> {
         ensures jobs { S.tells → KeepsJobs (S.state site.old) (S.state site.new) }
         ensures asks { CreateAsks result (S.counts site.old) (S.counts site.new) }
     {
-        let Some(stage) = stage_of(site, manager)? else {
+        let Some(len) = unfinished_length(site, manager)? else {
             return Err(CreateFault::Taken);
         };
-        proceed(site, manager, stage)?;
+        make_anew(site, manager, len)?;
         Ok(())
     }
 }
@@ -68,25 +58,37 @@ fn made_bytes(manager: u32) -> [u8; 33]
 {
     let [a, b, c, d] = manager.to_be_bytes();
     [
-        86, 78, 70, 77, 45, 76, 67, 77, 1, a, b, c, d, 0, 0, 0, 0, 0, 0, 0, 0, 0, 0, 0, 0, 0, 0, 0,
+        86, 78, 70, 77, 45, 76, 67, 77, 2, a, b, c, d, 0, 0, 0, 0, 0, 0, 0, 0, 0, 0, 0, 0, 0, 0, 0,
         0, 0, 0, 0, 0,
     ]
 }
 
-// What is left of the making from this stage on.
-fn proceed<S: Site>(site: &mut S, manager: u32, stage: Stage) -> Result<(), DiskFailed>
-    requires stands { S.tells → StandsSo (StageIs manager stage) (S.state site.old) }
+// Makes the file out of an unfinished one of so many bytes, of which it leaves one at most.
+fn make_anew<S: Site>(site: &mut S, manager: u32, len: u64) -> Result<(), DiskFailed>
+    requires unfinished { S.tells → StandsSo (IsUnfinished manager) (S.state site.old) }
+    requires long { S.tells → len ≡ length (S.state site.old).image }
     ensures told { S.tells → Steps manager (HasRecords manager []) result (S.state site.old) (S.state site.new) }
-    ensures asks { Asks (left_to_ask stage) result (S.counts site.old) (S.counts site.new) }
+    ensures asks { (longer : Bool) × Asks (to_make longer) result (S.counts site.old) (S.counts site.new) }
 {
-    match stage {
-        Stage::Empty => make(site, manager),
-        Stage::Begun => fill_and_finish(site, manager),
-        Stage::Filled => finish(site, manager),
+    if len > 1 {
+        shorten(site, manager)?;
+        return make(site, manager);
     }
+    make(site, manager)
 }
 
-// All of the making.
+// Cuts an unfinished file to one byte.
+fn shorten<S: Site>(site: &mut S, manager: u32) -> Result<(), DiskFailed>
+    requires unfinished { S.tells → StandsSo (IsUnfinished manager) (S.state site.old) }
+    requires longer { S.tells → 1 < length (S.state site.old).image }
+    ensures told { S.tells → Steps manager IsEmpty result (S.state site.old) (S.state site.new) }
+    ensures asks { Asks (cut ∷ sync ∷ []) result (S.counts site.old) (S.counts site.new) }
+{
+    site.cut(1)?;
+    site.sync()
+}
+
+// Makes a file of at most one byte.
 fn make<S: Site>(site: &mut S, manager: u32) -> Result<(), DiskFailed>
     requires empty { S.tells → StandsSo IsEmpty (S.state site.old) }
     ensures told { S.tells → Steps manager (HasRecords manager []) result (S.state site.old) (S.state site.new) }
@@ -133,50 +135,48 @@ fn finish<S: Site>(site: &mut S, manager: u32) -> Result<(), DiskFailed>
     write_through(site, 0, b"V")
 }
 
-// Syncs, and finds how far the making of the file has come; None where it isn't unfinished for this manager.
-fn stage_of<S: Site>(site: &mut S, manager: u32) -> Result<Option<Stage>, DiskFailed>
-    ensures stage { S.tells → IfOk result (λ found. StandsSo (FoundIs manager found) (S.state site.new)) }
+// Syncs, and gives the length of the file; None where it isn't unfinished for this manager.
+fn unfinished_length<S: Site>(site: &mut S, manager: u32) -> Result<Option<u64>, DiskFailed>
+    ensures length { S.tells → IfOk result (λ found. StandsSo (LengthIs manager found) (S.state site.new)) }
     ensures told { S.tells → SyncsAndReads (S.state site.old) (S.state site.new) }
     ensures cause { DiskCause (asked Ask.sync (S.counts site.old)) (S.counts site.new) result }
 {
     site.sync()?;
     let len = site.length()?;
-    stage_at(site, len, manager)
+    if is_unfinished_at(site, len, manager)? {
+        Ok(Some(len))
+    } else {
+        Ok(None)
+    }
 }
 
-// How far the making of the file, which has `len` bytes, has come.
-fn stage_at<S: Site>(site: &mut S, len: u64, manager: u32) -> Result<Option<Stage>, DiskFailed>
+// Whether the file, which has `len` bytes, is unfinished for this manager.
+fn is_unfinished_at<S: Site>(site: &mut S, len: u64, manager: u32) -> Result<bool, DiskFailed>
     requires long { S.tells → len ≡ length (S.state site.old).image }
-    ensures stage { S.tells → IfOk result (λ found. FoundIs manager found (S.state site.old).image) }
+    ensures unfinished { S.tells → IfOk result (λ is. IsTrue is ↔ IsUnfinished manager (S.state site.old).image) }
     ensures told { S.tells → Reads (S.state site.old) (S.state site.new) }
     ensures cause { DiskCause (S.counts site.old) (S.counts site.new) result }
 {
-    let mut bytes = [0u8; 33];
-    let held = if len < 33 { len as usize } else { 33 };
+    let mut bytes = [0u8; 32];
+    let held = if len < 32 { len as usize } else { 32 };
     site.read_at(0, &mut bytes[..held])?;
-    Ok(stage_by(&bytes[..held], manager))
+    Ok(is_unfinished(&bytes[..held], manager))
 }
 
-// How far the making of the file has come, by its first 33 bytes, or all where it has fewer.
-fn stage_by(front: &[u8], manager: u32) -> Option<Stage>
-    ensures { (image : List ℕ) → front.now ≡ take 33 image → FoundIs manager result image }
+// Whether a file is unfinished, by its first 32 bytes, or all where it has fewer.
+fn is_unfinished(front: &[u8], manager: u32) -> bool
+    ensures { (image : List ℕ) → front.now ≡ take 32 image → IsTrue result ↔ IsUnfinished manager image }
 {
-    if front.len() < 2 {
-        return Some(Stage::Empty);
+    if front.len() < 2 || front[0] == b'v' {
+        return true;
     }
-    if front[0] == b'v' {
-        return Some(Stage::Begun);
-    }
-    if front[0] != b'V' && is_rest(front, manager) {
-        return Some(Stage::Filled);
-    }
-    None
+    front[0] != b'V' && is_rest(front, manager)
 }
 
-// Whether bytes 1 to 32 are those of a made file of this manager with no record.
+// Whether bytes 1 to 31 are those of a header of this manager.
 fn is_rest(front: &[u8], manager: u32) -> bool
-    ensures { IsTrue result ↔ (drop 1 front.now ≡ drop 1 (made manager)) }
+    ensures { IsTrue result ↔ (drop 1 front.now ≡ drop 1 (header manager)) }
 {
     let made = made_bytes(manager);
-    front.len() == 33 && front[1..] == made[1..]
+    front.len() == 32 && front[1..] == made[1..32]
 }

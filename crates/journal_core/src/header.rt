@@ -2,12 +2,12 @@
 ghost use Rattle.std.specs.Prelude.{◌≡◌, ◌⊎◌, ◌≤◌, ◌<◌, ◌↔◌, ℕ, IsTrue, length, take, drop, get_or, MatchOption};
 ghost use Rattle.std.specs.Int.{w32, from_be_bytes};
 ghost use Rattle.journal_records.specs.File.{header};
-ghost use Rattle.journal_core.specs.Header.{made, MayStand, DiffersAt, HasHeader};
+ghost use Rattle.journal_core.specs.Header.{MayStand, DiffersAt, HasHeader};
 ghost use Rattle.journal_core.specs.Judged.{Judged, LongEnough};
 
 /// The bytes of a header whose manager has the number 0.
 pub const HEADER: [u8; 32] = [
-    86, 78, 70, 77, 45, 76, 67, 77, 1, 0, 0, 0, 0, 0, 0, 0, 0, 0, 0, 0, 0, 0, 0, 0, 0, 0, 0, 0, 0,
+    86, 78, 70, 77, 45, 76, 67, 77, 2, 0, 0, 0, 0, 0, 0, 0, 0, 0, 0, 0, 0, 0, 0, 0, 0, 0, 0, 0, 0,
     0, 0, 0,
 ];
 
@@ -22,9 +22,9 @@ pub enum HeaderState {
     Foreign(u64),
 }
 
-/// What the first 33 bytes of a file, or all where it has fewer, say of its header.
+/// What the first 32 bytes of a file, or all where it has fewer, say of its header.
 pub fn judge(front: &[u8]) -> HeaderState
-    requires { length front.now ≤ 33 }
+    requires { length front.now ≤ 32 }
     ensures judged { Judged front.now result }
     ensures long { LongEnough (length front.now) result }
 {
@@ -32,7 +32,7 @@ pub fn judge(front: &[u8]) -> HeaderState
         return HeaderState::Unmade;
     }
     if front[0] != b'V' {
-        return if is_rest_of_made(front) {
+        return if is_rest_of_header(front) {
             HeaderState::Unmade
         } else {
             HeaderState::Foreign(0)
@@ -60,18 +60,18 @@ fn number_at(front: &[u8]) -> u32
     u32::from_be_bytes([front[9], front[10], front[11], front[12]])
 }
 
-// Whether bytes 1 to 32 are those of a made file with no record.
-fn is_rest_of_made(front: &[u8]) -> bool
-    requires { length front.now ≤ 33 }
-    ensures { IsTrue result ↔ ((m : ℕ) × (take 32 (drop 1 front.now) ≡ drop 1 (made m))) }
+// Whether bytes 1 to 31 are those of a header.
+fn is_rest_of_header(front: &[u8]) -> bool
+    requires { length front.now ≤ 32 }
+    ensures { IsTrue result ↔ ((m : ℕ) × (take 31 (drop 1 front.now) ≡ drop 1 (header m))) }
 {
-    if front.len() != 33 {
+    if front.len() != 32 {
         return false;
     }
     if front[1..9] != HEADER[1..9] {
         return false;
     }
-    front[13..33] == [0u8; 20]
+    front[13..32] == [0u8; 19]
 }
 
 // The first place of a header at which these bytes have none that may stand there.

@@ -6,20 +6,21 @@ ghost use Rattle.site_traits.specs.Site.{KeepsJobs};
 ghost use Rattle.journal_core.specs.Asking.{AppendAsks, FailsWhere};
 ghost use Rattle.journal_records.specs.File.{piece};
 ghost use Rattle.journal_records.specs.declared.limits.TheConstants.{MAX_RECORD};
+ghost use Rattle.journal_records.specs.Reading.{standing_at};
 ghost use Rattle.journal_core.specs.Journal.{Stands, Appends};
-ghost use Rattle.journal_core.specs.Marks.{IsMark, first_mark};
-ghost use Rattle.journal_core.specs.Back.{ReadsBack, KeepsRecords};
+ghost use Rattle.journal_core.specs.Marks.{AreUpTo};
+ghost use Rattle.journal_core.specs.Back.{ReadsBack, KeepsRecords, GoesBefore};
 ghost use Rattle.journal_core.specs.Room.{Adds, HasRoom};
 
-use crate::back::{BackFault, record_from};
-use crate::marks::{FIRST, Mark, Marks};
+use crate::back::{BackFault, give_many};
+use crate::marks::{Mark, Marks};
 use crate::through::write_through;
-use journal_records::MAX_FILE;
+use journal_records::{MAX_FILE, Reader};
 use site_traits::{DiskFailed, Site};
 use std::marker::{Model, PhantomData};
 
-// Bytes of the first write of the largest append: a length, the content and a closed gate.
-pub const ROOM: usize = 65_541;
+// Bytes of the first write of the largest append: two lengths, the record and a closed gate.
+pub const ROOM: usize = 65_545;
 
 /// The journal of one manager. It never owns the site of its file, which is lent to each call.
 ///
@@ -28,10 +29,11 @@ pub struct Journal<S: Site> {
     manager: u32,
     count: u64,
     end: u64,
+    saved: u64,
     closed: bool,
     marks: Marks,
-    last: Mark,
-    size: usize,
+    behind: u64,
+    reader: Reader,
     buffer: Vec<u8>,
     of: PhantomData<S>,
 }
@@ -43,10 +45,11 @@ impl<S: Site> Drop for Journal<S> {
             manager: _,
             count: _,
             end: _,
+            saved: _,
             closed: _,
             marks: _,
-            last: _,
-            size: _,
+            behind: _,
+            reader: _,
             buffer: _,
             of: _,
         } = self;
@@ -54,9 +57,9 @@ impl<S: Site> Drop for Journal<S> {
 }
 
 impl<S: Site> Model for Journal<S> {
-    ghost use Rattle.std.specs.Prelude.{◌≡◌, ◌≤◌, ◌<◌, ◌*◌, ◌∷◌, length, take};
+    ghost use Rattle.std.specs.Prelude.{◌≡◌, ◌≤◌, ◌<◌, ◌*◌, length};
     ghost use Rattle.journal_core.specs.Journal.{Ledger};
-    ghost use Rattle.journal_records.specs.declared.limits.TheConstants.{MAX_RECORD};
+    ghost use Rattle.journal_core.specs.Marks.{AreUpTo};
 
     ghost Value = { Ledger };
 
@@ -64,14 +67,16 @@ impl<S: Site> Model for Journal<S> {
       manager = j.manager;
       count = j.count;
       end = j.end;
+      saved = j.saved;
       closed = j.closed;
-      marks =
-          j.last ∷ j.marks.places;
-      back = take j.size j.buffer.items;
+      marks = j.marks.places;
+      back = j.reader.record_bytes;
+      behind = j.behind;
+      reading = j.reader;
     } };
 
-    ghost invariant = { λ j. (length j.buffer.items ≡ 65541) × (j.end < 268435456) × (j.count * 6 ≤ j.end)
-        × (j.size ≤ MAX_RECORD) × (j.marks.seen ≡ j.count) };
+    ghost invariant = { λ j. (length j.buffer.items ≡ 65545) × (j.end < 268435456) × (j.count * 5 ≤ j.end)
+        × (j.saved ≤ 268435456) × AreUpTo j.count j.marks.places };
 }
 
 /// Why a record could not be appended.
@@ -99,30 +104,44 @@ impl From<DiskFailed> for AppendFault {
 }
 
 impl<S: Site> Journal<S> {
-    /// The journal of so many records, whose closed gate stands at `end`, with its buffer.
-    pub fn of(manager: u32, count: u64, end: u64, buffer: Vec<u8>, marks: Marks) -> Journal<S>
-        requires room { length buffer.items ≡ 65541 }
+    /// The journal of so many records, whose closed gate stands at `end`, `saved` bytes nearer to the front than where
+    /// each record has a batch of its own; with a reader, and a buffer.
+    pub fn of(
+        manager: u32,
+        count: u64,
+        end: u64,
+        saved: u64,
+        marks: Marks,
+        reader: Reader,
+        buffer: Vec<u8>,
+    ) -> Journal<S>
+        requires room { length buffer.items ≡ 65545 }
         requires small { end < 268435456 }
-        requires few { count * 6 ≤ end }
-        requires seen { marks.seen ≡ count }
+        requires few { count * 5 ≤ end }
+        requires less { saved ≤ 268435456 }
+        requires order { AreUpTo count marks.places }
+        requires start { reader ≡ standing_at 32 }
         ensures { result ≡ record {
           manager = manager;
           count = count;
           end = end;
+          saved = saved;
           closed = false;
-          marks =
-              first_mark ∷ marks.places;
+          marks = marks.places;
           back = [];
+          behind = 0;
+          reading = standing_at 32;
         } }
     {
         Journal {
             manager,
             count,
             end,
+            saved,
             closed: false,
             marks,
-            last: FIRST,
-            size: 0,
+            behind: 0,
+            reader,
             buffer,
             of: PhantomData,
         }
@@ -150,14 +169,24 @@ impl<S: Site> Journal<S> {
         self.end
     }
 
-    /// Whether a record of `more` bytes and the closed gate behind it end at or before place `limit` of the file.
+    /// How many bytes nearer to the front its closed gate stands than where each record has a batch of its own. It
+    /// stays the same as long as the journal is open.
+    pub fn saved(&self) -> u64
+        ensures value { result ≡ self.now.saved }
+        ensures small { self.now.saved ≤ 268435456 }
+    {
+        self.saved
+    }
+
+    /// Whether a batch of one record of `more` bytes and the closed gate behind it end at or before place `limit` of
+    /// the file.
     pub fn fits(&self, more: usize, limit: u64) -> bool
         ensures { IsTrue result ↔ HasRoom self.now.end more limit }
     {
-        limit >= self.end + 6 && more as u64 <= limit - (self.end + 6)
+        limit >= self.end + 10 && more as u64 <= limit - (self.end + 10)
     }
 
-    /// Adds a record of these bytes. It makes two writes and two syncs, reads nothing and takes no memory. It leaves
+    /// Adds a record of these bytes, in a batch of its own. It makes two writes and two syncs, reads nothing and takes no memory. It leaves
     /// the jobs alone.
     ///
     /// Refusals, in this order: `Full {end, more}` (bytes), after which nothing has changed; `Disk`.
@@ -172,22 +201,24 @@ impl<S: Site> Journal<S> {
         ensures manager { self.new.manager ≡ self.old.manager }
         ensures grown { OnOk result ((self.new.count ≡ self.old.count + 1) × (Adds bytes.now self.old.end self.new.end)
             × (self.new.closed ≡ false)) }
+        ensures saved { self.new.saved ≡ self.old.saved }
         ensures told { S.tells → Appends bytes.now result self.old self.new (S.state site.old) (S.state site.new) }
         ensures jobs { S.tells → KeepsJobs (S.state site.old) (S.state site.new) }
-        ensures full { 268435456 < self.old.end + 6 + length bytes.now
+        ensures full { 268435456 < self.old.end + 10 + length bytes.now
             → result ≡ Err (AppendFault.Full self.old.end (length bytes.now)) }
         ensures only_full { (end more : ℕ) → result ≡ Err (AppendFault.Full end more)
-            → (268435456 < self.old.end + 6 + length bytes.now) × (self.new ≡ self.old) × (site.new ≡ site.old) }
+            → (268435456 < self.old.end + 10 + length bytes.now) × (self.new ≡ self.old) × (site.new ≡ site.old) }
         ensures closed { result ≡ Err AppendFault.Disk → self.new.closed ≡ true }
         ensures asks { AppendAsks result (S.counts site.old) (S.counts site.new) }
     {
-        if self.end + 6 + bytes.len() as u64 > MAX_FILE {
+        if self.end + 10 + bytes.len() as u64 > MAX_FILE {
             return Err(AppendFault::Full {
                 end: self.end,
                 more: bytes.len() as u32,
             });
         }
-        self.size = 0;
+        self.behind = 0;
+        self.reader.stand_at(32);
         let total = frame(&mut self.buffer, bytes);
         self.closed = true;
         write_through(site, self.end + 1, &self.buffer[..total])?;
@@ -204,9 +235,9 @@ impl<S: Site> Journal<S> {
 }
 
 impl<S: Site> Journal<S> {
-    /// Reads record n, from 1, back: `record_back` then gives its bytes. It makes one read of the record's head and one
-    /// of its bytes, and one of a head for each record between it and the nearest place that the journal keeps. It
-    /// takes no memory.
+    /// Reads record n, from 1, back: `record_back` then gives its bytes. It reads on from the record that was read back
+    /// last, or from the nearest place before record n that the journal keeps, whichever is nearer: at most two reads
+    /// for each batch that it comes to, and none for a record that the reader holds. It takes no memory.
     ///
     /// Refusals: `Disk`; `Broken(n)`, which never comes where the site tells its content.
     /// After `Disk`: the journal is closed; load it again.
@@ -225,19 +256,14 @@ impl<S: Site> Journal<S> {
         ensures closed { result ≡ Err BackFault.Disk → self.new.closed ≡ true }
         ensures counts { FailsWhere (result ≡ Err BackFault.Disk) (S.counts site.old) (S.counts site.new) }
     {
-        let from = self.nearest(n);
-        self.size = 0;
+        self.go_before(n);
         self.closed = true;
-        let found = record_from(site, from, n, self.end, &mut self.buffer)?;
+        let found = give_many(&mut self.reader, site, self.end, n - self.behind)?;
         self.closed = false;
-        let Some((place, size)) = found else {
+        if !found {
             return Err(BackFault::Broken(n));
-        };
-        self.size = size;
-        self.last = Mark {
-            before: n,
-            place: place + 5 + size as u64,
-        };
+        }
+        self.behind = n;
         Ok(())
     }
 
@@ -245,36 +271,34 @@ impl<S: Site> Journal<S> {
     pub fn record_back(&self) -> &[u8]
         ensures { result.now ≡ self.now.back }
     {
-        &self.buffer[..self.size]
+        self.reader.record_bytes()
     }
 
-    // The nearest place before record n that the journal keeps.
-    fn nearest(&self, n: u64) -> Mark
+    // Stands behind a record before record n: where it stands, or at the nearest place that the journal keeps.
+    fn go_before(&mut self, n: u64)
         requires some { 1 ≤ n }
-        requires within { n ≤ self.now.count }
-        ensures before { result.before < n }
-        ensures near { (n - 1 - result.before) * 196608 ≤ self.now.end }
-        ensures mark { (rs : List (List ℕ)) → All (IsMark rs) self.now.marks → IsMark rs result }
+        ensures goes { GoesBefore n self.old self.new }
     {
         let kept = self.marks.near(n);
-        if kept.before < self.last.before && self.last.before < n {
-            self.last
-        } else {
-            kept
+        if kept.before <= self.behind && self.behind < n {
+            return;
         }
+        self.behind = kept.before;
+        self.reader.stand_at(kept.place);
     }
 }
 
 // Puts what is written behind a closed gate to the front of the buffer, and gives the number of its bytes.
 fn frame(buffer: &mut [u8], bytes: &[u8]) -> usize
-    requires room { length bytes.now + 5 ≤ length buffer.old }
+    requires room { length bytes.now + 9 ≤ length buffer.old }
     requires fits { length bytes.now ≤ MAX_RECORD }
-    ensures total { result ≡ length bytes.now + 5 }
+    ensures total { result ≡ length bytes.now + 9 }
     ensures framed { take result buffer.new ≡ piece bytes.now }
 {
     let n = bytes.len();
-    buffer[..4].copy_from_slice(&(n as u32).to_be_bytes());
-    buffer[4..n + 4].copy_from_slice(bytes);
-    buffer[n + 4] = 0;
-    n + 5
+    buffer[..4].copy_from_slice(&(n as u32 + 4).to_be_bytes());
+    buffer[4..8].copy_from_slice(&(n as u32).to_be_bytes());
+    buffer[8..n + 8].copy_from_slice(bytes);
+    buffer[n + 8] = 0;
+    n + 9
 }

@@ -3,9 +3,10 @@ ghost use Rattle.std.specs.Prelude.{◌≡◌};
 ghost use Rattle.journal_core.specs.Asking.{AppendsCount, CreatesCount};
 ghost use Rattle.journal_core.specs.Room.{AddsUp, HasRoomBefore, TakesMore};
 
+use crate::back::BACK;
 use crate::journal::ROOM;
-use crate::marks::MARKS;
-use journal_records::{MAX_FILE, MAX_RECORD};
+use crate::marks::{APART, MARKS};
+use journal_records::{BLOCK, MAX_BATCH, MAX_FILE, MAX_RECORD};
 
 /// That the limits of a journal's file are these. It does nothing, and its contract is the law.
 ///
@@ -13,8 +14,12 @@ use journal_records::{MAX_FILE, MAX_RECORD};
 pub fn limits_are_fixed()
     ensures file { MAX_FILE ≡ 268435456 }
     ensures record { MAX_RECORD ≡ 65536 }
-    ensures room { ROOM ≡ 65541 }
+    ensures batch { MAX_BATCH ≡ 131072 }
+    ensures block { BLOCK ≡ 65536 }
+    ensures back { BACK ≡ 8192 }
+    ensures room { ROOM ≡ 65545 }
     ensures marks { MARKS ≡ 65536 }
+    ensures apart { APART ≡ 4096 }
 {}
 
 /// How the records of a file add up. It does nothing, and its contract is the law.

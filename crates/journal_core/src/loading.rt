@@ -1,16 +1,15 @@
-// The loading of a journal: its records are read in order, one at a time, in a single walk over the file.
+// The loading of a journal: its records are given in order, one at a time, in a single walk over the file, block by block.
 ghost use Rattle.std.specs.Prelude.{◌≡◌, ◌≤◌, ◌<◌, ◌+◌, List, ℕ, true, false, IfOk, length, Result};
 ghost use Rattle.site_traits.specs.Counts.{Ask, asked, DiskCause};
 ghost use Rattle.site_traits.specs.Site.{KeepsJobs, Reads};
 ghost use Rattle.journal_core.specs.Asking.{FailsWhere};
 ghost use Rattle.journal_core.specs.Judged.{Judged, LongEnough, FrontIs};
-ghost use Rattle.journal_core.specs.Load.{Loads, Opened, IsBegun, Finds, Grows, ledger_of, Loaded, SyncsAndReads};
+ghost use Rattle.journal_core.specs.Load.{Loads, Opened, IsBegun, Finds, Grows, ledger_of, Loaded, SyncsAndReads, GivesOne};
 
 use crate::header::{HeaderState, judge};
 use crate::journal::{Journal, ROOM};
 use crate::marks::{Mark, Marks};
-use crate::through::bytes_at;
-use journal_records::{Head, head_at};
+use journal_records::{BLOCK, Head, Reader};
 use site_traits::{DiskFailed, Site};
 use std::alloc::{AllocError, Global};
 use std::marker::{Model, PhantomData};
@@ -22,7 +21,8 @@ pub enum LoadFault {
     Unmade,
     /// The file isn't unfinished, and differs first at this place, from 0, from the header of every journal.
     Foreign(u64),
-    /// Record n, from 1, is the first behind an open gate that is none, or the file ends where its gate would stand.
+    /// Behind an open gate stands no batch, or the file ends at the place of a gate; record n, from 1, would be the first
+    /// of what should stand there.
     Broken(u64),
     /// A disk call failed.
     Disk,
@@ -65,36 +65,39 @@ pub enum Found {
 pub struct Loading<S: Site> {
     manager: u32,
     count: u64,
-    end: u64,
+    total: u64,
     len: u64,
-    size: usize,
     ended: bool,
     marks: Marks,
+    reader: Reader,
     buffer: Vec<u8>,
     of: PhantomData<S>,
 }
 
 impl<S: Site> Model for Loading<S> {
-    ghost use Rattle.std.specs.Prelude.{◌≡◌, ◌≤◌, ◌<◌, ◌*◌, take, length};
+    ghost use Rattle.std.specs.Prelude.{◌≡◌, ◌≤◌, ◌<◌, ◌+◌, ◌*◌, true, length};
     ghost use Rattle.journal_core.specs.Judged.{Judged, LongEnough, FrontIs};
     ghost use Rattle.journal_core.specs.Load.{Progress};
-    ghost use Rattle.journal_records.specs.declared.limits.TheConstants.{MAX_RECORD};
+    ghost use Rattle.journal_core.specs.Marks.{AreUpTo};
 
     ghost Value = { Progress };
 
     ghost view = { λ l. record {
       manager = l.manager;
       count = l.count;
-      end = l.end;
+      end = l.reader.place + l.reader.left;
+      total = l.total;
       len = l.len;
-      record_bytes =
-          take l.size l.buffer.items;
+      record_bytes = l.reader.record_bytes;
       ended = l.ended;
       marks = l.marks.places;
+      reading = l.reader;
     } };
 
-    ghost invariant = { λ l. (length l.buffer.items ≡ 65541) × (l.end < 268435456) × (l.count * 6 ≤ l.end)
-        × (l.end ≤ l.len) × (l.size ≤ MAX_RECORD) × (l.marks.seen ≡ l.count) };
+    ghost invariant = { λ l. (length l.buffer.items ≡ 65545) × (l.reader.place + l.reader.left < 268435456)
+        × (l.count * 5 ≤ l.reader.place) × (l.reader.left ≡ 0 → l.reader.place ≤ l.total)
+        × (l.reader.place ≤ l.total + 5) × (l.total ≤ l.reader.place * 2) × (l.ended ≡ true → l.reader.left ≡ 0)
+        × AreUpTo l.count l.marks.places };
 }
 
 impl<S: Site> Journal<S> {
@@ -116,14 +119,15 @@ impl<S: Site> Journal<S> {
             HeaderState::Made(manager) => {
                 let buffer = vec![in alloc; 0; ROOM]?;
                 let marks = Marks::new(alloc)?;
+                let reader = Reader::new(alloc)?;
                 Ok(Loading {
                     manager,
                     count: 0,
-                    end: 32,
+                    total: 32,
                     len,
-                    size: 0,
                     ended: false,
                     marks,
+                    reader,
                     buffer,
                     of: PhantomData,
                 })
@@ -133,8 +137,8 @@ impl<S: Site> Journal<S> {
 }
 
 impl<S: Site> Journal<S> {
-    /// The journal of a site's file. What was pending is on the disk first. It reads each record once, and holds one at
-    /// a time.
+    /// The journal of a site's file. What was pending is on the disk first. It reads each byte once, in blocks of 65,536
+    /// bytes or as many as the batch at hand lacks where that is more.
     ///
     /// Refusals, in this order: `Unmade`, `Foreign(place)`, `Broken(n)`; `Disk`; `Memory`.
     /// Source: own format, docs/JOURNAL.md.
@@ -171,8 +175,8 @@ impl<S: Site> Loading<S> {
         self.count
     }
 
-    /// Reads the next record, or finds the closed gate behind the last one. It makes one read of at most five bytes,
-    /// and one of the record's.
+    /// Gives the next record, or finds the closed gate behind the last one. It makes at most two reads, and none where
+    /// what it holds is enough. A batch is judged whole before its first record is given.
     ///
     /// Refusals, in this order: `Broken(n)`, with n one more than the records read; `Disk`. No other comes here.
     /// Source: own format, docs/JOURNAL.md.
@@ -182,44 +186,69 @@ impl<S: Site> Loading<S> {
         ensures found { S.tells → (rs : List (List ℕ)) → Loads rs self.old (S.state site.old)
             → Finds rs result self.new (S.state site.new) }
         ensures grown { Grows result self.old self.new }
-        ensures within { self.new.end < 268435456 }
+        ensures within { self.new.total < 536870912 }
         ensures told { S.tells → Reads (S.state site.old) (S.state site.new) }
         ensures counts { FailsWhere (result ≡ Err LoadFault.Disk) (S.counts site.old) (S.counts site.new) }
     {
-        match head_at(site, self.end, self.len)? {
+        self.ended = false;
+        if self.reader.is_in_batch() {
+            self.give();
+            return Ok(Found::Record);
+        }
+        let place = self.reader.place();
+        match self.reader.enter(site, self.len, BLOCK)? {
             Head::Closed => {
                 self.ended = true;
                 Ok(Found::End)
             }
             Head::Broken => Err(LoadFault::Broken(self.count + 1)),
-            Head::Open(size) => {
-                bytes_at(site, self.end + 5, size as usize, &mut self.buffer)?;
+            Head::Open => {
                 self.marks.keep(Mark {
                     before: self.count,
-                    place: self.end,
+                    place,
                 });
-                self.size = size as usize;
-                self.end += 5 + size as u64;
-                self.count += 1;
-                self.ended = false;
+                self.give();
                 Ok(Found::Record)
             }
         }
+    }
+
+    // Gives the next record of the batch at hand.
+    fn give(&mut self)
+        requires { 1 ≤ self.old.reading.left }
+        ensures gives { GivesOne self.old self.new }
+        ensures within { self.new.total < 536870912 }
+    {
+        let size = self.reader.give();
+        self.count += 1;
+        self.total += 9 + size as u64;
     }
 
     /// The bytes of the last record read.
     pub fn record_bytes(&self) -> &[u8]
         ensures { result.now ≡ self.now.record_bytes }
     {
-        &self.buffer[..self.size]
+        self.reader.record_bytes()
     }
 
     /// The journal, once the closed gate was found. It takes no memory.
-    pub fn finish(self) -> Journal<S>
+    pub fn finish(mut self) -> Journal<S>
         requires { self.ended ≡ true }
-        ensures { result ≡ ledger_of self }
+        ensures ledger { result ≡ ledger_of self }
+        ensures adds { result.end + result.saved ≡ self.total }
     {
-        Journal::of(self.manager, self.count, self.end, self.buffer, self.marks)
+        let end = self.reader.place();
+        self.reader.stand_at(32);
+        let saved = self.total - end;
+        Journal::of(
+            self.manager,
+            self.count,
+            end,
+            saved,
+            self.marks,
+            self.reader,
+            self.buffer,
+        )
     }
 }
 
@@ -244,8 +273,8 @@ fn header_at<S: Site>(site: &mut S, len: u64) -> Result<HeaderState, DiskFailed>
     ensures told { S.tells → Reads (S.state site.old) (S.state site.new) }
     ensures cause { DiskCause (S.counts site.old) (S.counts site.new) result }
 {
-    let mut bytes = [0u8; 33];
-    let held = if len < 33 { len as usize } else { 33 };
+    let mut bytes = [0u8; 32];
+    let held = if len < 32 { len as usize } else { 32 };
     site.read_at(0, &mut bytes[..held])?;
     Ok(judge(&bytes[..held]))
 }

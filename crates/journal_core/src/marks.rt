@@ -1,13 +1,18 @@
 // The places that a journal keeps, so that a record is read back without a walk from the start of the file.
-ghost use Rattle.std.specs.Prelude.{◌≡◌, ◌≤◌, ◌<◌, ◌+◌, ◌-◌, ◌*◌, ◌/◌, ◌^◌, [], List, ℕ, IfOk, All, length, get_or};
+ghost use Rattle.std.specs.Prelude.{◌≡◌, ◌≤◌, ◌<◌, ◌+◌, ◌*◌, [], List, ℕ, IfOk, All, Contains, length, nat_lt};
+ghost use Rattle.std.specs.Prelude.{true, false};
+ghost use Rattle.std.specs.List.Sorted.{IsPartitionedBy, IsPartitionPoint};
 ghost use Rattle.std.specs.Prelude.{vec_capacity};
-ghost use Rattle.journal_core.specs.Marks.{IsMark, AreEvery, IsFitStep};
+ghost use Rattle.journal_core.specs.Marks.{IsMark, AreInOrder, AreUpTo, one_more};
 
 use std::alloc::{AllocError, Global};
 use std::marker::Model;
 
-/// How many places a journal keeps.
+/// How many places a journal keeps at most.
 pub const MARKS: usize = 65_536;
+
+/// How many bytes a place that is kept stands behind the one before it, at least.
+pub const APART: u64 = 4_096;
 
 /// A place of the file at which a gate stands, and how many records stand before it.
 #[derive(Clone, Copy)]
@@ -24,105 +29,76 @@ pub const FIRST: Mark = Mark {
     place: 32,
 };
 
-/// The places of every k-th record, k being the step. Where the room for them is full, k doubles and every second place
-/// goes.
+/// The places of gates that stand 4,096 bytes apart or more, the least that do.
 ///
-/// A contract sees the places, and of how many records they are.
+/// A contract sees the places, and from which place on the next is kept.
 #[derive(Drop)]
 pub struct Marks {
     kept: Vec<Mark>,
-    step: u64,
-    seen: u64,
+    next: u64,
 }
 
 impl Model for Marks {
-    ghost use Rattle.std.specs.Prelude.{◌≡◌, vec_capacity};
-    ghost use Rattle.journal_core.specs.Marks.{Kept, AreEvery, IsFitStep};
+    ghost use Rattle.std.specs.Prelude.{◌≡◌, ◌≤◌, ◌+◌, ◌*◌, length, vec_capacity};
+    ghost use Rattle.journal_core.specs.Marks.{Kept, AreInOrder, AreInFile};
 
     ghost Value = { Kept };
 
-    ghost view = { λ m. record { places = m.kept.items; seen = m.seen } };
+    ghost view = { λ m. record { places = m.kept.items; next = m.next } };
 
-    ghost invariant = { λ m. AreEvery m.step m.seen m.kept.items × IsFitStep m.step m.seen
-        × (vec_capacity m.kept ≡ 65536) };
+    ghost invariant = { λ m. (length m.kept.items * 4096 + 32 ≤ m.next) × (m.next ≤ 268439552)
+        × AreInOrder m.kept.items × AreInFile m.kept.items × (vec_capacity m.kept ≡ 65536) };
 }
 
 impl Marks {
     /// No place, with room for 65,536.
     pub fn new(alloc: Global) -> Result<Marks, AllocError>
-        ensures { IfOk result (λ m. m ≡ record { places = []; seen = 0 }) }
+        ensures { IfOk result (λ m. m ≡ record { places = []; next = 32 }) }
     {
         let kept = Vec::with_capacity(alloc, MARKS)?;
-        Ok(Marks {
-            kept,
-            step: 1,
-            seen: 0,
-        })
+        Ok(Marks { kept, next: 32 })
     }
 
-    /// One record more is seen, whose gate stands here; its place is kept where it is one of every k-th. It takes no
-    /// memory.
+    /// One batch more is seen, whose gate stands here; its place is kept where it stands 4,096 bytes or more behind the
+    /// last that was. It takes no memory.
     pub fn keep(&mut self, mark: Mark)
-        requires next { mark.before ≡ self.old.seen }
-        requires small { self.old.seen < 268435456 }
-        ensures seen { self.new.seen ≡ self.old.seen + 1 }
-        ensures marks { (rs : List (List ℕ)) → All (IsMark rs) self.old.places → IsMark rs mark
-            → All (IsMark rs) self.new.places }
+        requires small { mark.place < 268435456 }
+        requires order { AreUpTo mark.before self.old.places }
+        ensures kept { self.new ≡ one_more self.old mark }
     {
-        if mark.before % self.step != 0 {
-            self.seen += 1;
+        if mark.place < self.next {
             return;
         }
-        self.step = make_room(&mut self.kept, self.step, mark.before);
         self.kept.push_reserved(mark);
-        self.seen += 1;
+        self.next = mark.place + APART;
     }
 
-    /// The nearest kept place before record n, from 1: fewer than k records stand between, and k is at most one more
-    /// than a 32,768th of the records that were seen.
+    /// The last kept place before record n, from 1, or that of the first gate.
     pub fn near(&self, n: u64) -> Mark
         requires some { 1 ≤ n }
-        requires seen { n ≤ self.now.seen }
         ensures before { result.before < n }
-        ensures near { (n - 1 - result.before) * 32768 ≤ self.now.seen }
-        ensures mark { (rs : List (List ℕ)) → All (IsMark rs) self.now.places → IsMark rs result }
+        ensures last { (m : Mark) → Contains self.now.places m → m.before < n → m.before ≤ result.before }
+        ensures mark { (bs : List (List (List ℕ))) → All (IsMark bs) self.now.places → IsMark bs result }
+        ensures small { result.place < 268435456 }
     {
-        self.kept[((n - 1) / self.step) as usize]
+        let passed = count_before(&self.kept, n);
+        if passed == 0 {
+            return FIRST;
+        }
+        self.kept[passed - 1]
     }
 }
 
-// Makes room for the place behind so many records, a multiple of the step, and gives the step between the places that
-// are kept.
-fn make_room(kept: &mut Vec<Mark>, step: u64, seen: u64) -> u64
-    requires every { AreEvery step seen kept.old.items }
-    requires next { length kept.old.items * step ≡ seen }
-    requires fit { IsFitStep step seen }
-    requires capacity { vec_capacity kept.old ≡ 65536 }
-    ensures every { AreEvery result seen kept.new.items }
-    ensures next { length kept.new.items * result ≡ seen }
-    ensures fit { IsFitStep result seen }
-    ensures room { length kept.new.items < 65536 }
-    ensures capacity { vec_capacity kept.new ≡ 65536 }
-    ensures marks { (rs : List (List ℕ)) → All (IsMark rs) kept.old.items → All (IsMark rs) kept.new.items }
+// How many places, which are in order, stand before record n.
+fn count_before(marks: &[Mark], n: u64) -> usize
+    ensures bound { result ≤ length marks.now }
+    ensures place { IsPartitionedBy (λ (m : Mark). nat_lt m.before n) marks.now
+        → IsPartitionPoint (λ (m : Mark). nat_lt m.before n ≡ true)
+        (λ (m : Mark). nat_lt m.before n ≡ false) marks.now result }
 {
-    if kept.len() < MARKS {
-        return step;
-    }
-    halve(kept);
-    step * 2
-}
-
-// Keeps every second place.
-fn halve(kept: &mut Vec<Mark>)
-    ensures len { length kept.new.items ≡ length kept.old.items / 2 }
-    ensures each { (k : ℕ) (d : Mark) → k < length kept.new.items
-        → get_or kept.new.items k d ≡ get_or kept.old.items (k * 2) d }
-    ensures marks { (rs : List (List ℕ)) → All (IsMark rs) kept.old.items → All (IsMark rs) kept.new.items }
-    ensures capacity { vec_capacity kept.new ≡ vec_capacity kept.old }
-{
-    let half = kept.len() / 2;
-    for k in 0..half {
-        kept[k] = kept[k * 2];
-    }
-    kept.truncate(half);
+    marks.partition_point(
+        |m: &Mark| -> bool
+            ensures { result ≡ nat_lt m.now.before n }
+        { m.before < n },
+    )
 }

@@ -1,2 +1,4 @@
 pub mod ByteLemmas
+pub mod ContentLemmas
 pub mod HeadLemmas
+pub mod WindowLemmas

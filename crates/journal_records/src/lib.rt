@@ -1,9 +1,10 @@
-//! What the bytes of a journal's file say: what stands at the place of a gate, and which length and end a record may
-//! have.
+//! What the bytes of a journal's file say: what stands at the place of a gate, and which records a batch has.
 #![tactic(auto)]
 
-mod head;
+mod content;
 mod limits;
+mod reader;
+mod window;
 
-pub use head::{Head, head_at};
-pub use limits::{MAX_FILE, MAX_RECORD};
+pub use limits::{BLOCK, MAX_BATCH, MAX_FILE, MAX_RECORD};
+pub use reader::{Head, Reader};

@@ -20,12 +20,13 @@ answered o H (Ok reply) = went (o.after ++ H)
 answered o H (Err fault.Disk) = broke H (o.after ++ H)
 answered o H (Err fault.Memory) = went H
 
--- the reply is the outcome of the request of this role, and the history ends with what it acknowledges
-pub record IsOutcomeOf (m : ℕ) (H : List Event) (role : Role) (r : Request) (reply : Reply) : Type 0 where
+-- the reply is the outcome of the request of this role, where the journal saves so many bytes, and the history ends
+-- with what it acknowledges
+pub record IsOutcomeOf (m saved : ℕ) (H : List Event) (role : Role) (r : Request) (reply : Reply) : Type 0 where
   pub before : List Event
   pub now : ℕ
-  pub reply_is : reply ≡ (outcome m before now role r).reply
-  pub history_is : H ≡ (outcome m before now role r).after ++ before
+  pub reply_is : reply ≡ (outcome m saved before now role r).reply
+  pub history_is : H ≡ (outcome m saved before now role r).after ++ before
 
 -- A reply may be told: the manager is open, the reply is the outcome of the request in hand for its role, the history
 -- that the manager keeps ends with what it acknowledges, and whatever a stop leaves now has that history.
@@ -36,5 +37,5 @@ pub record IsAcknowledged (tells : Type 0) (m : Managed) (s : SiteState) (hand :
   pub usable : m.ledger.closed ≡ false
   pub keeps : Keeps m history
   pub in_hand : hand ≡ Some request
-  pub is : IsOutcomeOf m.ledger.manager history role request reply
+  pub is : IsOutcomeOf m.ledger.manager m.ledger.saved history role request reply
   pub everywhere : tells → (p : Pair) → s.since s.moment p → HasHistory m.ledger.manager history p.image

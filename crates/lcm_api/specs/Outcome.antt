@@ -1,6 +1,7 @@
 -- What a request comes to: the reply, and the event that it adds to the history (SOL 003 5.4). The order of the
 -- refusals is an own rule.
 use Rattle.std.specs.Prelude.{ℕ, List, codes}
+use Rattle.executor.specs.Room.{is_full}
 use Rattle.http_wire.specs.declared.request.Request.{Request}
 use Rattle.lcm_events.specs.declared.events.Event.{Event}
 use Rattle.lcm_events.specs.declared.states.Role.{Role}
@@ -10,6 +11,7 @@ use Rattle.lcm_api.specs.Instances.{delete_instance, list_instances, show_instan
 use Rattle.lcm_api.specs.Occurrences.{list_occurrences, show_occurrence}
 use Rattle.lcm_api.specs.Planning.{Outcome, in_room, refused, told}
 use Rattle.lcm_api.specs.declared.record.Planned.{Planned}
+use Rattle.lcm_api.specs.declared.record.TheConstants.{MAX_REQUESTED}
 use Rattle.lcm_api.specs.Routes.{not_allowed, routing}
 use Rattle.lcm_api.specs.Subscriptions.{create_subscription, end_subscription, list_subscriptions, show_subscription}
 use Rattle.lcm_api.specs.Tasks.{occurrence_task}
@@ -42,7 +44,7 @@ routed Nowhere m H now role r = refused 404 (codes "no such resource") r.last
 routed (NotAllowed x) m H now role r = told (not_allowed x r.last)
 routed (Served route) m H now role r = served route m H now role r
 
--- What a request of this role comes to, after history H of manager m, taken at this moment. The connection ends with
--- the reply where it ends with the request (RFC 9112 9.6).
-abbrev pub outcome : ℕ → List Event → ℕ → Role → Request → Outcome
-outcome m H now role r = in_room H r.last (routed (routing r) m H now role r)
+-- What a request of this role comes to, after history H of manager m, whose journal saves so many bytes, taken at this
+-- moment. The connection ends with the reply where it ends with the request (RFC 9112 9.6).
+abbrev pub outcome : ℕ → ℕ → List Event → ℕ → Role → Request → Outcome
+outcome m saved H now role r = in_room (is_full MAX_REQUESTED saved) H r.last (routed (routing r) m H now role r)

@@ -1,9 +1,7 @@
 -- What a request comes to: a reply, and what it adds where there is room for that.
 use Rattle.std.specs.Prelude.{ℕ, List, [], ◌∷◌, codes, Bool, true, false}
-use Rattle.executor.specs.Room.{is_full}
 use Rattle.lcm_api.specs.declared.record.Planned.{Planned}
 use Rattle.lcm_api.specs.declared.record.Planned.TheVariants.{Records, Told}
-use Rattle.lcm_api.specs.declared.record.TheConstants.{MAX_REQUESTED}
 use Rattle.lcm_events.specs.declared.events.Event.{Event}
 use Rattle.lcm_replies.specs.Replies.{refusal}
 use Rattle.lcm_replies.specs.declared.reply.Reply.{Reply}
@@ -26,7 +24,7 @@ abbrev pub recorded : Bool → Event → Reply → Bool → Outcome
 recorded true event reply last = record { reply = refusal 507 (codes "journal full") last; after = [] }
 recorded false event reply last = record { reply = reply; after = event ∷ [] }
 
--- what is planned behind history H comes to this, by whether there is room for its event (own rule)
-abbrev pub in_room : List Event → Bool → Planned → Outcome
-in_room H last (Told reply) = record { reply = reply; after = [] }
-in_room H last (Records event reply) = recorded (is_full MAX_REQUESTED (event ∷ H)) event reply last
+-- what is planned behind history H comes to this, by which histories' journals are full (own rule)
+abbrev pub in_room : (List Event → Bool) → List Event → Bool → Planned → Outcome
+in_room full H last (Told reply) = record { reply = reply; after = [] }
+in_room full H last (Records event reply) = recorded (full (event ∷ H)) event reply last

@@ -50,11 +50,13 @@ pub fn answer<S: Site>(
 ) -> Result<Reply, ApiFault>
     requires ready { (H : List Event) × IsReady S.tells manager.old H (S.state site.old) }
     ensures reply { (H : List Event) → Keeps manager.old H
-        → IfOk result (λ given. given ≡ (outcome manager.old.ledger.manager H now role request.now).reply) }
+        → IfOk result (λ given. given
+        ≡ (outcome manager.old.ledger.manager manager.old.ledger.saved H now role request.now).reply) }
     ensures works { (H : List Event) → IsReady S.tells manager.old H (S.state site.old)
         → Works S.tells manager.old.ledger.manager H
-        (answered (outcome manager.old.ledger.manager H now role request.now) H result) manager.new (S.state site.old)
-        (S.state site.new) }
+        (answered (outcome manager.old.ledger.manager manager.old.ledger.saved H now role request.now) H result)
+        manager.new (S.state site.old) (S.state site.new) }
+    ensures saved { manager.new.ledger.saved ≡ manager.old.ledger.saved }
     ensures counts { OnlyDiskFails (result ≡ Err ApiFault.Disk) (S.counts site.old) (S.counts site.new) }
 {
     works_add_up::<S>();

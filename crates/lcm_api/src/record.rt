@@ -41,11 +41,14 @@ pub fn carry_out<S: Site>(
     requires ready { (H : List Event) × IsReady S.tells manager.old H (S.state site.old)
         × MayCarryOut manager.old H planned }
     ensures reply { (H : List Event) → Keeps manager.old H
-        → IfOk result (λ given. given ≡ (in_room H last planned).reply) }
+        → IfOk result (λ given. given
+        ≡ (in_room (is_full MAX_REQUESTED manager.old.ledger.saved) H last planned).reply) }
     ensures works { (H : List Event) → IsReady S.tells manager.old H (S.state site.old)
         → MayCarryOut manager.old H planned
-        → Works S.tells manager.old.ledger.manager H (answered (in_room H last planned) H result) manager.new
+        → Works S.tells manager.old.ledger.manager H
+        (answered (in_room (is_full MAX_REQUESTED manager.old.ledger.saved) H last planned) H result) manager.new
         (S.state site.old) (S.state site.new) }
+    ensures saved { manager.new.ledger.saved ≡ manager.old.ledger.saved }
     ensures counts { OnlyDiskFails (result ≡ Err ApiFault.Disk) (S.counts site.old) (S.counts site.new) }
 {
     works_add_up::<S>();
@@ -71,11 +74,13 @@ fn record<S: Site>(
     requires fits { (H : List Event) × IsReady S.tells manager.old H (S.state site.old)
         × FitsBehind manager.old H event.now }
     ensures reply { (H : List Event) → Keeps manager.old H
-        → IfOk result (λ given. given ≡ (recorded (is_full MAX_REQUESTED (event.now ∷ H)) event.now reply last).reply) }
+        → IfOk result (λ given. given ≡ (recorded (is_full MAX_REQUESTED manager.old.ledger.saved (event.now ∷ H))
+        event.now reply last).reply) }
     ensures works { (H : List Event) → IsReady S.tells manager.old H (S.state site.old)
         → FitsBehind manager.old H event.now → Works S.tells manager.old.ledger.manager H
-        (answered (recorded (is_full MAX_REQUESTED (event.now ∷ H)) event.now reply last) H result) manager.new
-        (S.state site.old) (S.state site.new) }
+        (answered (recorded (is_full MAX_REQUESTED manager.old.ledger.saved (event.now ∷ H)) event.now reply last) H
+        result) manager.new (S.state site.old) (S.state site.new) }
+    ensures saved { manager.new.ledger.saved ≡ manager.old.ledger.saved }
     ensures counts { OnlyDiskFails (result ≡ Err ApiFault.Disk) (S.counts site.old) (S.counts site.new) }
 {
     match manager.commit(alloc, site, event, MAX_REQUESTED) {

@@ -33,17 +33,18 @@ brought_out n failed role a b c d comes hears gone =
     ap out gone.conn ∙ ap out hears.conn ∙ heard_out n failed b.conn ∙ ap out comes.conn
 
 -- bytes were heard, judged and recorded
-pub onboards_heard : (t : WorldTells) (m : ℕ) (H : List Event) (n : Managed) (count now value : ℕ) (room : List ℕ)
+pub onboards_heard : (t : WorldTells) (m z : ℕ) (H : List Event) (n : Managed) (count now value : ℕ) (room : List ℕ)
     (answer : Result Onboarded OnboardFault) (w v : World)
     → HearsDescriptor t.door (Ok count) room w.mouth v.mouth
-    → answer ≡ judged_answer (verdict H now (take count room)) (ended_by answer)
-    → Works t.site m H (worked H (onboarded now (verdict H now (take count room))) (ended_by answer)) n w.site v.site
+    → answer ≡ judged_answer (verdict z H now (take count room)) (ended_by answer)
+    → Works t.site m H (worked H (onboarded now (verdict z H now (take count room))) (ended_by answer)) n w.site v.site → n.ledger.saved ≡ z
     → (t.clock → Gives value w.clock v.clock) → now ≡ min value 253402300799999 → v.mouth.told ≡ w.mouth.told
-    → (o : Onboarding) × Onboards t m H o n w v × (answer ≡ answer_of H o)
-onboards_heard t m H n count now value room answer w v hears told works gives moment unnoted = (
+    → (o : Onboarding) × Onboards t m z H o n w v × (answer ≡ answer_of z H o)
+onboards_heard t m z H n count now value room answer w v hears told works saved gives moment unnoted = (
   heard (take count room) now (ended_by answer),
   record {
     works = works;
+    saves = saved;
     brings = record {
       door = hears;
       clock =
@@ -80,12 +81,20 @@ hears_noted tells count room a b c hears noted =
 pub onboards_unheard : (t : WorldTells) (m : Managed) (H : List Event) (why : Unheard) (room : List ℕ) (s : SiteState) (c d : MouthState)
     (ks : List ℕ)
     → HearsDescriptor t.door (Err why) room c d → d.told ≡ c.told → Idles t.site s → IsReady t.site m H s
-    → (o : Onboarding) × Onboards t m.ledger.manager H o m (world s c ks) (world s d ks) × (Err fault.Door ≡ answer_of H o)
-onboards_unheard t m H Waiting room s c d ks hears unnoted idles ready =
-    (unheard, record { works = idles m H ready; brings = record { door = hears; clock = λ tells. refl; unnoted = unnoted } }, refl)
+    → (o : Onboarding) × Onboards t m.ledger.manager m.ledger.saved H o m (world s c ks) (world s d ks) ×
+    (Err fault.Door ≡ answer_of m.ledger.saved H o)
+onboards_unheard t m H Waiting room s c d ks hears unnoted idles ready = (
+  unheard,
+  record {
+    works = idles m H ready;
+    saves = refl;
+    brings = record { door = hears; clock = λ tells. refl; unnoted = unnoted };
+  },
+  refl,
+)
 onboards_unheard t m H Reading room s c d ks hears unnoted idles ready = (
   cut_off hears.0,
-  record { works = idles m H ready; brings = record { door = hears.1; clock = λ tells. refl; unnoted = unnoted } },
+  record { works = idles m H ready; saves = refl; brings = record { door = hears.1; clock = λ tells. refl; unnoted = unnoted } },
   refl,
 )
 
@@ -103,19 +112,19 @@ never_door v starving is = cc is
 never_door v breaking is = cc is
 
 -- a call of the door failed exactly where onboarding answers so
-pub onboarding_fails : (tells : Type 0) (H : List Event) (o : Onboarding) (a b : MouthState) → OnboardingAtDoor tells o a b
-    → OnlyDoorFails (answer_of H o ≡ Err fault.Door) a.wire.intake.counts b.wire.intake.counts
-onboarding_fails tells H unready a b at = record { rose = λ is. absurd (cc is); stays = λ never. (rw at refl, rw at refl) }
-onboarding_fails tells H unheard a b at = record {
+pub onboarding_fails : (tells : Type 0) (z : ℕ) (H : List Event) (o : Onboarding) (a b : MouthState) → OnboardingAtDoor tells o a b
+    → OnlyDoorFails (answer_of z H o ≡ Err fault.Door) a.wire.intake.counts b.wire.intake.counts
+onboarding_fails tells z H unready a b at = record { rose = λ is. absurd (cc is); stays = λ never. (rw at refl, rw at refl) }
+onboarding_fails tells z H unheard a b at = record {
   rose = λ is. (rw at.counts refl, inr (rw at.counts refl));
   stays =
       λ never. absurd (never refl);
 }
-onboarding_fails tells H (cut_off bytes) a b at =
+onboarding_fails tells z H (cut_off bytes) a b at =
     let counts = brought_counts tells bytes true a b at in
     record { rose = λ is. (rw counts refl, inl (rw counts refl)); stays = λ never. absurd (never refl) }
-onboarding_fails tells H (heard bytes now ended) a b at = record {
-  rose = λ is. absurd (never_door (verdict H now bytes) ended is);
+onboarding_fails tells z H (heard bytes now ended) a b at = record {
+  rose = λ is. absurd (never_door (verdict z H now bytes) ended is);
   stays = λ never. ⊎_elim
       (λ (some : Brings tells bytes false a b). let counts = brought_counts tells bytes false a b some in (rw counts refl, rw counts refl))
       (λ (none : BringsNothing tells bytes a b). (rw none.counts refl, rw none.counts refl))

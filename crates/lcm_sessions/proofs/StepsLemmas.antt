@@ -71,19 +71,20 @@ cut_counts wire.Read reply a b counts = counts
 cut_counts wire.Memory reply a b counts = counts
 
 -- a request was taken and answered
-pub talk_of_request : (t : outside.WorldTells) (m : ℕ) (H : List Event) (talk : Talk) (r : Request) (n : Managed) (s : SiteState)
+pub talk_of_request : (t : outside.WorldTells) (m z : ℕ) (H : List Event) (talk : Talk) (r : Request) (n : Managed) (s : SiteState)
     (c u : MouthState) (ks : List ℕ) (v : World)
     → Counts t.door c.wire u.wire r → OnlyTakesIn t.door c.wire.intake u.wire.intake → u.wire.intake.counts ≡ c.wire.intake.counts
-    → u.told ≡ c.told → Responds t m H talk n (world s u ks) v → IsAbout r talk → Talks t m H talk n (world s c ks) v
-talk_of_request t m H talk r n s c u ks v counts reads same unnoted does about =
+    → u.told ≡ c.told → Responds t m z H talk n (world s u ks) v → IsAbout r talk → Talks t m z H talk n (world s c ks) v
+talk_of_request t m z H talk r n s c u ks v counts reads same unnoted does about =
     let Q : List Ask → Type 0 = λ asks. AreRequests asks (remains_of c.wire) (remains_of v.mouth.wire) in
     record {
       works = does.works;
+      saves = does.saves;
       holds = record {
         roles = subst (AreFor talk.role) (sym about.is) (refl, tt);
         requests = λ told.
             let replied = does.replies told in
-            let rest = remains_kept [] (said (replies m H talk.asks) ++ replied.final) u v.mouth does.kept replied.door in
+            let rest = remains_kept [] (said (replies m z H talk.asks) ++ replied.final) u v.mouth does.kept replied.door in
             let P : Remains → Type 0 = λ z. IsNext r (remains_of c.wire) z in
             subst Q (sym about.is) (remains_of c.wire, refl, subst P (sym rest) (next_taken t.door r c.wire u.wire counts told));
         speaks = λ told.
@@ -93,7 +94,7 @@ talk_of_request t m H talk r n s c u ks v counts reads same unnoted does about =
               read = came.0 ++ [];
               final = replied.final;
               final_is = replied.final_is;
-              door = converses_then came.0 [] [] (said (replies m H talk.asks) ++ replied.final) c.wire.intake.door u.wire.intake.door
+              door = converses_then came.0 [] [] (said (replies m z H talk.asks) ++ replied.final) c.wire.intake.door u.wire.intake.door
                   v.mouth.wire.intake.door
                   (converses_read came.0 c.wire.intake.door u.wire.intake.door came.1) replied.door;
             };
@@ -102,7 +103,7 @@ talk_of_request t m H talk r n s c u ks v counts reads same unnoted does about =
         faults = counts_since talk.end c.wire.intake.counts u.wire.intake.counts v.mouth.wire.intake.counts same does.faults;
         counts = counts_then c.wire.intake.counts u.wire.intake.counts v.mouth.wire.intake.counts reads.counts does.counts;
       };
-      told = subst (λ (before : List ℕ). AreTold t.site m (behind_told m H talk) before v.mouth.told s v.site) unnoted does.told;
+      told = subst (λ (before : List ℕ). AreTold t.site m (behind_told m z H talk) before v.mouth.told s v.site) unnoted does.told;
     }
 
 -- what a telling at the end says
@@ -118,21 +119,22 @@ pub talk_of_end : (t : outside.WorldTells) (m : Managed) (H : List Event) (role 
     (s : SiteState) (c u v : MouthState) (ks : List ℕ)
     → Idles t.site s → IsReady t.site m H s → Takes t.door answer c.wire u.wire → OnlyTakesIn t.door c.wire.intake u.wire.intake
     → TakesNone t.door c.wire u.wire
-    → asked_last end.last ≡ [] → work_last m.ledger.manager H end.last ≡ went H
+    → asked_last end.last ≡ [] → work_last m.ledger.manager m.ledger.saved H end.last ≡ went H
     → (AsksLast t.door answer (is_lost end) c.wire v.wire → EndsFor t.door end.last end.told c.wire v.wire)
-    → (t.door → (final : List ℕ) × IsSaid (reply_last m.ledger.manager H end.last) end.told final
+    → (t.door → (final : List ℕ) × IsSaid (reply_last m.ledger.manager m.ledger.saved H end.last) end.told final
     × Converses [] final u.wire.intake.door v.wire.intake.door)
     → OnlyAtDoor u v → ReadCounts answer c.wire.intake.counts u.wire.intake.counts
     → u.wire.intake.counts ≡ counts_by (is_cut end.last) c.wire.intake.counts
     → FailsOnce (is_lost end) u.wire.intake.counts v.wire.intake.counts
-    → AreTold t.site m.ledger.manager (behind_last m.ledger.manager H (Some end) ++ []) c.told v.told s s
-    → Talks t m.ledger.manager H (ended_so role end) m (world s c ks) (world s v ks)
+    → AreTold t.site m.ledger.manager (behind_last m.ledger.manager m.ledger.saved H (Some end) ++ []) c.told v.told s s
+    → Talks t m.ledger.manager m.ledger.saved H (ended_so role end) m (world s c ks) (world s v ks)
 talk_of_end t m H role end answer s c u v ks idles ready takes reads none asked work ends says kept heard cut fails told_of =
     let P : Work → Type 0 = λ w. Works t.site m.ledger.manager H w m s s in
     let Q : List Ask → Type 0 = λ asks. AreRequests (asks ++ []) (remains_of c.wire) (remains_of v.wire) in
     let R : List Ask → Type 0 = λ asks. GaveAll (asks ++ []) ks ks in
     record {
       works = subst P (sym work) (idles m H ready);
+      saves = refl;
       holds = record {
         roles = subst (λ (asks : List Ask). AreFor role (asks ++ [])) (sym asked) tt;
         requests = λ told.
@@ -170,20 +172,21 @@ talk_of_end t m H role end answer s c u v ks idles ready takes reads none asked 
     }
 
 -- a reply that acknowledges what the manager's history ends with may be told
-pub acknowledged : (tells : Type 0) (m : ℕ) (H : List Event) (role : Role) (r : Request) (now : ℕ) (n : Managed) (a b : SiteState)
+pub acknowledged : (tells : Type 0) (m z : ℕ) (H : List Event) (role : Role) (r : Request) (now : ℕ) (n : Managed) (a b : SiteState)
     (hand : Option Request) (reply : Reply) → Stays b
-    → Works tells m H (went ((outcome m H now role r).after ++ H)) n a b → hand ≡ Some r → reply ≡ (outcome m H now role r).reply
-    → IsAcknowledged tells n b hand role reply
-acknowledged tells m H role r now n a b hand reply stays works in_hand is =
-    let P : ℕ → Type 0 = λ k. IsOutcomeOf k ((outcome m H now role r).after ++ H) role r reply in
+    → Works tells m H (went ((outcome m z H now role r).after ++ H)) n a b → hand ≡ Some r → reply ≡ (outcome m z H now role r).reply
+    → n.ledger.saved ≡ z → IsAcknowledged tells n b hand role reply
+acknowledged tells m z H role r now n a b hand reply stays works in_hand is saved =
+    let P : ℕ → Type 0 = λ k. IsOutcomeOf k n.ledger.saved ((outcome m z H now role r).after ++ H) role r reply in
+    let Q : ℕ → Type 0 = λ k. IsOutcomeOf m k ((outcome m z H now role r).after ++ H) role r reply in
     record {
-      history = (outcome m H now role r).after ++ H;
+      history = (outcome m z H now role r).after ++ H;
       request = r;
       usable = works.closed;
       keeps = works.keeps;
       in_hand = in_hand;
-      is = subst P (sym works.number) (record { before = H; now = now; reply_is = is; history_is = refl });
-      everywhere = λ told. (stays n ((outcome m H now role r).after ++ H) ((works.site told).stands refl)).left;
+      is = subst P (sym works.number) (subst Q (sym saved) (record { before = H; now = now; reply_is = is; history_is = refl }));
+      everywhere = λ told. (stays n ((outcome m z H now role r).after ++ H) ((works.site told).stands refl)).left;
     }
 
 -- the request in hand is one
@@ -191,14 +194,15 @@ pub same_hand : (hand : Option Request) (q r : Request) → hand ≡ Some q → 
 same_hand hand q r one other = cc
 
 -- the reply to a request was told whole
-pub responds_told : (t : outside.WorldTells) (m : ℕ) (H : List Event) (role : Role) (x : Ask) (n : Managed) (reply : Reply) (w v : World)
-    → Works t.site m H (went (once_answered m H x)) n w.site v.site
-    → reply ≡ (outcome_of m H x).reply → (t.clock → Gives x.value w.clock v.clock)
+pub responds_told : (t : outside.WorldTells) (m z : ℕ) (H : List Event) (role : Role) (x : Ask) (n : Managed) (reply : Reply) (w v : World)
+    → Works t.site m H (went (once_answered m z H x)) n w.site v.site → n.ledger.saved ≡ z
+    → reply ≡ (outcome_of m z H x).reply → (t.clock → Gives x.value w.clock v.clock)
     → (t.door → WorldTells (text reply) (Ok tt) w.mouth.wire.intake.door v.mouth.wire.intake.door)
     → OnlyAtDoor w.mouth v.mouth → FailsOnce false w.mouth.wire.intake.counts v.mouth.wire.intake.counts
-    → StandingStays t.site w.site v.site → v.mouth.told ≡ v.site.moment ∷ w.mouth.told → Responds t m H (answered_one role x) n w v
-responds_told t m H role x n reply w v works is gives told kept fails stands noted = record {
+    → StandingStays t.site w.site v.site → v.mouth.told ≡ v.site.moment ∷ w.mouth.told → Responds t m z H (answered_one role x) n w v
+responds_told t m z H role x n reply w v works saved is gives told kept fails stands noted = record {
   works = works;
+  saves = saved;
   replies = λ tells.
       let P : Reply → Type 0 = λ r. Converses [] (text r ++ []) w.mouth.wire.intake.door v.mouth.wire.intake.door in
       let Q : List ℕ → Type 0 = λ out. Converses [] out w.mouth.wire.intake.door v.mouth.wire.intake.door in
@@ -213,26 +217,28 @@ responds_told t m H role x n reply w v works is gives told kept fails stands not
   faults = fails.is;
   kept = kept;
   counts = fails.counts;
-  told = (v.site.moment, w.mouth.told, noted, stands m H (went (once_answered m H x)) n works.site, refl);
+  told = (v.site.moment, w.mouth.told, noted, stands m H (went (once_answered m z H x)) n works.site, refl);
 }
 
 -- the session ends with a request
-pub responds_last : (t : outside.WorldTells) (m : ℕ) (H : List Event) (role : Role) (x : Ask) (last : Last)
+pub responds_last : (t : outside.WorldTells) (m z : ℕ) (H : List Event) (role : Role) (x : Ask) (last : Last)
     (result : Result (Unit {0}) DoorFailed) (n : Managed) (reply : Reply) (w v : World)
-    → asked_last last ≡ x ∷ [] → Works t.site m H (work_last m H last) n w.site v.site → reply_last m H last ≡ Some reply
+    → asked_last last ≡ x ∷ [] → Works t.site m H (work_last m z H last) n w.site v.site → n.ledger.saved ≡ z
+    → reply_last m z H last ≡ Some reply
     → EndsFor t.door last result w.mouth.wire v.mouth.wire
     → (t.clock → Gives x.value w.clock v.clock) → (t.door → WorldTells
     (text reply) result w.mouth.wire.intake.door v.mouth.wire.intake.door)
     → OnlyAtDoor w.mouth v.mouth → v.mouth.wire.intake.counts ≡ counts_behind
     (Some (record { last = last; told = result })) w.mouth.wire.intake.counts
     → NoNextFault w.mouth.wire.intake.counts v.mouth.wire.intake.counts → StandingStays t.site w.site v.site → has_reply last ≡ true
-    → v.mouth.told ≡ v.site.moment ∷ w.mouth.told → Responds t m H (ended_so role (record { last = last; told = result })) n w v
-responds_last t m H role x last result n reply w v asked works is ends gives told kept faults counts stands some noted =
-    let A : Bool → Type 0 = λ b. AreTold t.site m ((if b then stood (work_last m H last) ∷ [] else []) ++ []) w.mouth.told v.mouth.told
+    → v.mouth.told ≡ v.site.moment ∷ w.mouth.told → Responds t m z H (ended_so role (record { last = last; told = result })) n w v
+responds_last t m z H role x last result n reply w v asked works saved is ends gives told kept faults counts stands some noted =
+    let A : Bool → Type 0 = λ b. AreTold t.site m ((if b then stood (work_last m z H last) ∷ [] else []) ++ []) w.mouth.told v.mouth.told
     w.site v.site in
     let Q : List Ask → Type 0 = λ asks. GaveAll (asks ++ []) w.clock v.clock in
     record {
       works = works;
+      saves = saved;
       replies = λ tells.
           let says = says_last reply result w.mouth.wire.intake.door v.mouth.wire.intake.door (told tells) in
           let P : Option Reply → Type 0 = λ o. IsSaid o result says.0 in
@@ -242,7 +248,7 @@ responds_last t m H role x last result n reply w v asked works is ends gives tol
       faults = faults;
       kept = kept;
       counts = counts;
-      told = subst A (sym some) (v.site.moment, w.mouth.told, noted, stands m H (work_last m H last) n works.site, refl);
+      told = subst A (sym some) (v.site.moment, w.mouth.told, noted, stands m H (work_last m z H last) n works.site, refl);
     }
 
 -- a talk about a request, under another name of it

@@ -29,24 +29,24 @@ pub life_more : {X : Type 0} (next : List Event → X → List Event) (H : List 
 life_more next H [] xs = refl
 life_more next H (y ∷ ys) xs = ap (λ (G : List Event). next G y) (life_more next H ys xs)
 
-replies_more : (m : ℕ) (H : List Event) (ys xs : List Ask) → replies m H (ys ++ xs)
-    ≡ replies m (life (once_answered m) H xs) ys ++ replies m H xs
-replies_more m H [] xs = refl
-replies_more m H (y ∷ ys) xs =
-    let one : (outcome_of m (life (once_answered m) H (ys ++ xs)) y).reply
-    ≡ (outcome_of m (life (once_answered m) (life (once_answered m) H xs) ys) y).reply =
-    ap (λ (G : List Event). (outcome_of m G y).reply) (life_more (once_answered m) H ys xs) in
-    ap (λ (r : Reply). r ∷ replies m H (ys ++ xs)) one ∙ ap (λ (t : List Reply).
-    (outcome_of m (life (once_answered m) (life (once_answered m) H xs) ys) y).reply ∷ t) (replies_more m H ys xs)
+replies_more : (m z : ℕ) (H : List Event) (ys xs : List Ask) → replies m z H (ys ++ xs)
+    ≡ replies m z (life (once_answered m z) H xs) ys ++ replies m z H xs
+replies_more m z H [] xs = refl
+replies_more m z H (y ∷ ys) xs =
+    let one : (outcome_of m z (life (once_answered m z) H (ys ++ xs)) y).reply
+    ≡ (outcome_of m z (life (once_answered m z) (life (once_answered m z) H xs) ys) y).reply =
+    ap (λ (G : List Event). (outcome_of m z G y).reply) (life_more (once_answered m z) H ys xs) in
+    ap (λ (r : Reply). r ∷ replies m z H (ys ++ xs)) one ∙ ap (λ (t : List Reply).
+    (outcome_of m z (life (once_answered m z) (life (once_answered m z) H xs) ys) y).reply ∷ t) (replies_more m z H ys xs)
 
 -- the histories behind replies, of requests behind others
-behind_more : (m : ℕ) (H : List Event) (ys xs : List Ask)
-    → behind_replies m H (ys ++ xs) ≡ behind_replies m (life (once_answered m) H xs) ys ++ behind_replies m H xs
-behind_more m H [] xs = refl
-behind_more m H (y ∷ ys) xs =
-    let G : List Event = life (once_answered m) H xs in
-    ap (λ (K : List Event). K ∷ behind_replies m H (ys ++ xs)) (life_more (once_answered m) H (y ∷ ys) xs)
-    ∙ ap (λ (Ks : List (List Event)). life (once_answered m) G (y ∷ ys) ∷ Ks) (behind_more m H ys xs)
+behind_more : (m z : ℕ) (H : List Event) (ys xs : List Ask)
+    → behind_replies m z H (ys ++ xs) ≡ behind_replies m z (life (once_answered m z) H xs) ys ++ behind_replies m z H xs
+behind_more m z H [] xs = refl
+behind_more m z H (y ∷ ys) xs =
+    let G : List Event = life (once_answered m z) H xs in
+    ap (λ (K : List Event). K ∷ behind_replies m z H (ys ++ xs)) (life_more (once_answered m z) H (y ∷ ys) xs)
+    ∙ ap (λ (Ks : List (List Event)). life (once_answered m z) G (y ∷ ys) ∷ Ks) (behind_more m z H ys xs)
 
 -- what is within a history is within one that goes on from it
 pub within_more : (H G : List Event) (Ks : List (List Event)) → Extends H G → AreWithin H Ks → AreWithin G Ks
@@ -54,13 +54,13 @@ within_more H G [] on within = tt
 within_more H G (K ∷ Ks) on within = (extends_trans K H G within.0 on, within_more H G Ks on within.1)
 
 -- the history behind requests goes on from those behind each of them
-pub answered_within : (m : ℕ) (H : List Event) (xs : List Ask) → AreWithin (life (once_answered m) H xs) (behind_replies m H xs)
-answered_within m H [] = tt
-answered_within m H (x ∷ xs) =
-    let G : List Event = life (once_answered m) H xs in (
-      extends_refl (once_answered m G x),
-      within_more G (once_answered m G x) (behind_replies m H xs)
-          (record { more = (outcome_of m G x).after; is = refl }) (answered_within m H xs),
+pub answered_within : (m z : ℕ) (H : List Event) (xs : List Ask) → AreWithin (life (once_answered m z) H xs) (behind_replies m z H xs)
+answered_within m z H [] = tt
+answered_within m z H (x ∷ xs) =
+    let G : List Event = life (once_answered m z) H xs in (
+      extends_refl (once_answered m z G x),
+      within_more G (once_answered m z G x) (behind_replies m z H xs)
+          (record { more = (outcome_of m z G x).after; is = refl }) (answered_within m z H xs),
     )
 
 said_more : (late early : List Reply) → said (late ++ early) ≡ said early ++ said late
@@ -169,59 +169,60 @@ ends_since tells (Some end) a b c before ends = ends_for_since tells end.last en
 pub counts_since : (end : Option Closing) (a b c : DoorCounts) → b ≡ a → c ≡ counts_behind end b → c ≡ counts_behind end a
 counts_since end a b c before behind = behind ∙ ap (counts_behind end) before
 
-speaks_on : (m : ℕ) (H : List Event) (role : Role) (xs ys : List Ask) (end : Option Closing) (a b c : DoorState)
-    → Speaks m H (record { role = role; asks = xs; end = None }) a b
-    → Speaks m (life (once_answered m) H xs) (record { role = role; asks = ys; end = end }) b c
-    → Speaks m H (record { role = role; asks = ys ++ xs; end = end }) a c
-speaks_on m H role xs ys end a b c first second =
-    let G : List Event = life (once_answered m) H xs in
-    let P : List Event → Type 0 = λ K. SaysLast m K end second.final in
-    let nothing : said (replies m H xs) ++ first.final ≡ said (replies m H xs) =
-    ap (λ (t : List ℕ). said (replies m H xs) ++ t) first.final_is ∙ append-nil (said (replies m H xs)) in
-    let same : said (replies m H (ys ++ xs)) ≡ said (replies m H xs) ++ said (replies m G ys) =
-    ap said (replies_more m H ys xs) ∙ said_more (replies m G ys) (replies m H xs) in
-    let bytes : (said (replies m H xs) ++ first.final) ++ (said (replies m G ys) ++ second.final)
-    ≡ said (replies m H (ys ++ xs)) ++ second.final =
-    ap (λ (t : List ℕ). t ++ (said (replies m G ys) ++ second.final)) nothing
-    ∙ sym (append_assoc (said (replies m H xs)) (said (replies m G ys)) second.final)
+speaks_on : (m z : ℕ) (H : List Event) (role : Role) (xs ys : List Ask) (end : Option Closing) (a b c : DoorState)
+    → Speaks m z H (record { role = role; asks = xs; end = None }) a b
+    → Speaks m z (life (once_answered m z) H xs) (record { role = role; asks = ys; end = end }) b c
+    → Speaks m z H (record { role = role; asks = ys ++ xs; end = end }) a c
+speaks_on m z H role xs ys end a b c first second =
+    let G : List Event = life (once_answered m z) H xs in
+    let P : List Event → Type 0 = λ K. SaysLast m z K end second.final in
+    let nothing : said (replies m z H xs) ++ first.final ≡ said (replies m z H xs) =
+    ap (λ (t : List ℕ). said (replies m z H xs) ++ t) first.final_is ∙ append-nil (said (replies m z H xs)) in
+    let same : said (replies m z H (ys ++ xs)) ≡ said (replies m z H xs) ++ said (replies m z G ys) =
+    ap said (replies_more m z H ys xs) ∙ said_more (replies m z G ys) (replies m z H xs) in
+    let bytes : (said (replies m z H xs) ++ first.final) ++ (said (replies m z G ys) ++ second.final)
+    ≡ said (replies m z H (ys ++ xs)) ++ second.final =
+    ap (λ (t : List ℕ). t ++ (said (replies m z G ys) ++ second.final)) nothing
+    ∙ sym (append_assoc (said (replies m z H xs)) (said (replies m z G ys)) second.final)
     ∙ ap (λ (t : List ℕ). t ++ second.final) (sym same) in
     let Q : List ℕ → Type 0 = λ out. Converses (first.read ++ second.read) out a c in
     record {
       read = first.read ++ second.read;
       final = second.final;
-      final_is = subst P (sym (life_more (once_answered m) H ys xs)) second.final_is;
-      door = subst Q bytes (converses_then first.read second.read (said (replies m H xs) ++ first.final)
-          (said (replies m G ys) ++ second.final) a b c first.door second.door);
+      final_is = subst P (sym (life_more (once_answered m z) H ys xs)) second.final_is;
+      door = subst Q bytes (converses_then first.read second.read (said (replies m z H xs) ++ first.final)
+          (said (replies m z G ys) ++ second.final) a b c first.door second.door);
     }
 
 -- a talk behind another is the talk of all their requests
-pub talks_on : (t : outside.WorldTells) (m : ℕ) (H : List Event) (role : Role) (xs ys : List Ask) (end : Option Closing) (n o : Managed)
+pub talks_on : (t : outside.WorldTells) (m z : ℕ) (H : List Event) (role : Role) (xs ys : List Ask) (end : Option Closing) (n o : Managed)
     (w u v : World) → Joins t.site w.site u.site v.site
     → ChainsJoin t.site w.site u.site v.site
-    → Talks t m H (record { role = role; asks = xs; end = None }) n w u
-    → Talks t m (life (once_answered m) H xs) (record { role = role; asks = ys; end = end }) o u v
-    → Talks t m H (record { role = role; asks = ys ++ xs; end = end }) o w v
-talks_on t m H role xs ys end n o w u v joins chains first second =
-    let G : List Event = life (once_answered m) H xs in
-    let P : List Event → Type 0 = λ K. Works t.site m H (work_by m K end) o w.site v.site in
+    → Talks t m z H (record { role = role; asks = xs; end = None }) n w u
+    → Talks t m z (life (once_answered m z) H xs) (record { role = role; asks = ys; end = end }) o u v
+    → Talks t m z H (record { role = role; asks = ys ++ xs; end = end }) o w v
+talks_on t m z H role xs ys end n o w u v joins chains first second =
+    let G : List Event = life (once_answered m z) H xs in
+    let P : List Event → Type 0 = λ K. Works t.site m H (work_by m z K end) o w.site v.site in
     let taken : (asked_by end ++ ys) ++ xs ≡ asked_by end ++ (ys ++ xs) = append_assoc (asked_by end) ys xs in
     let Q : List Ask → Type 0 = λ asks. AreRequests asks (talking.remains_of w.mouth.wire) (talking.remains_of v.mouth.wire) in
     let R : List Ask → Type 0 = λ asks. GaveAll asks w.clock v.clock in
-    let later : List (List Event) = behind_last m (life (once_answered m) G ys) end in
-    let histories : (later ++ behind_replies m G ys) ++ behind_replies m H xs
-    ≡ behind_told m H (record { role = role; asks = ys ++ xs; end = end }) =
-    append_assoc later (behind_replies m G ys) (behind_replies m H xs)
-    ∙ ap (λ (Ks : List (List Event)). later ++ Ks) (sym (behind_more m H ys xs))
-    ∙ ap (λ (K : List Event). behind_last m K end ++ behind_replies m H (ys ++ xs)) (sym (life_more (once_answered m) H ys xs)) in
+    let later : List (List Event) = behind_last m z (life (once_answered m z) G ys) end in
+    let histories : (later ++ behind_replies m z G ys) ++ behind_replies m z H xs
+    ≡ behind_told m z H (record { role = role; asks = ys ++ xs; end = end }) =
+    append_assoc later (behind_replies m z G ys) (behind_replies m z H xs)
+    ∙ ap (λ (Ks : List (List Event)). later ++ Ks) (sym (behind_more m z H ys xs))
+    ∙ ap (λ (K : List Event). behind_last m z K end ++ behind_replies m z H (ys ++ xs)) (sym (life_more (once_answered m z) H ys xs)) in
     let A : List (List Event) → Type 0 = λ Ks. AreTold t.site m Ks w.mouth.told v.mouth.told w.site v.site in
     record {
-      works = subst P (sym (life_more (once_answered m) H ys xs)) (joins m H G
-          (work_by m (life (once_answered m) G ys) end) n o first.works second.works);
+      works = subst P (sym (life_more (once_answered m z) H ys xs)) (joins m H G
+          (work_by m z (life (once_answered m z) G ys) end) n o first.works second.works);
+      saves = second.saves;
       holds = record {
         roles = subst (AreFor role) taken (for_more role xs (asked_by end ++ ys) first.holds.roles second.holds.roles);
         requests = λ told. subst Q taken (requests_more xs (asked_by end ++ ys) (talking.remains_of w.mouth.wire)
             (talking.remains_of u.mouth.wire) (talking.remains_of v.mouth.wire) (first.holds.requests told) (second.holds.requests told));
-        speaks = λ told. speaks_on m H role xs ys end w.mouth.wire.intake.door u.mouth.wire.intake.door v.mouth.wire.intake.door
+        speaks = λ told. speaks_on m z H role xs ys end w.mouth.wire.intake.door u.mouth.wire.intake.door v.mouth.wire.intake.door
             (first.holds.speaks told) (second.holds.speaks told);
         clock = λ told. subst R taken (gave_more xs (asked_by end ++ ys) w.clock u.clock v.clock (first.holds.clock told)
             (second.holds.clock told));
@@ -232,15 +233,16 @@ talks_on t m H role xs ys end n o w u v joins chains first second =
             second.holds.counts;
       };
       told = subst A histories
-          (chains m H G (work_by m (life (once_answered m) G ys) end) n o (later ++ behind_replies m G ys)
-          (behind_replies m H xs) w.mouth.told u.mouth.told v.mouth.told
-          first.works.site (answered_within m H xs) first.told second.works.site second.told);
+          (chains m H G (work_by m z (life (once_answered m z) G ys) end) n o (later ++ behind_replies m z G ys)
+          (behind_replies m z H xs) w.mouth.told u.mouth.told v.mouth.told
+          first.works.site (answered_within m z H xs) first.told second.works.site second.told);
     }
 
 -- The talk so far: so many requests were answered, and all replies to them were told whole.
 pub record TalksSoFar (t : outside.WorldTells) (role : Role) (m n : Managed) (told : ℕ) (w v : World) : Type 0 where
   pub each : (H : List Event) → IsReady t.site m H w.site
-      → (asks : List Ask) × Talks t m.ledger.manager H (record { role = role; asks = asks; end = None }) n w v × (told ≡ length asks)
+      → (asks : List Ask) × Talks t m.ledger.manager m.ledger.saved H (record { role = role; asks = asks; end = None }) n w v ×
+      (told ≡ length asks)
   pub up : v.mouth.wire.intake.counts.up ≡ true
   pub few : told + w.mouth.wire.taken ≤ v.mouth.wire.taken
   pub within : (told ≡ 0) ⊎ (v.mouth.wire.taken ≤ CONNECTION_REQUESTS)
@@ -253,6 +255,7 @@ none_so_far t role m w idles up = record {
     [],
     record {
       works = idles m H ready;
+      saves = refl;
       holds = record {
         roles = tt;
         requests = λ told. refl;
@@ -277,30 +280,37 @@ pub ready_so_far : (t : outside.WorldTells) (role : Role) (m n : Managed) (told 
     → (H : List Event) × IsReady t.site n H v.site
 ready_so_far t role m n told w v so_far leads ready =
     let talk = so_far.each ready.0 ready.1 in (
-      life (once_answered m.ledger.manager) ready.0 talk.0,
+      life (once_answered m.ledger.manager m.ledger.saved) ready.0 talk.0,
       leads m.ledger.manager ready.0
-          (work_by m.ledger.manager (life (once_answered m.ledger.manager) ready.0 talk.0) None) n talk.1.works refl,
+          (work_by m.ledger.manager m.ledger.saved (life (once_answered m.ledger.manager m.ledger.saved) ready.0 talk.0) None) n
+          talk.1.works refl,
     )
 
 -- one request more
 pub one_more_told : (t : outside.WorldTells) (role : Role) (m n o : Managed) (told : ℕ) (w u v : World) → TalksSoFar t role m n told w u
     → LeadsOn t.site w.site u.site → Joins t.site w.site u.site v.site
     → ChainsJoin t.site w.site u.site v.site
-    → ((H : List Event) → IsReady t.site n H u.site → (talk : Talk) × Talks t n.ledger.manager H talk o u v
+    → ((H : List Event) → IsReady t.site n H u.site → (talk : Talk) × Talks t n.ledger.manager n.ledger.saved H talk o u v
     × ((x : Ask) × (talk ≡ answered_one role x)))
     → v.mouth.wire.intake.counts.up ≡ true → u.mouth.wire.taken < v.mouth.wire.taken → v.mouth.wire.taken ≤ CONNECTION_REQUESTS
     → TalksSoFar t role m o (told + 1) w v
 one_more_told t role m n o told w u v so_far leads joins chains step up more few = record {
   each = λ H ready.
       let talk = so_far.each H ready in
-      let G : List Event = life (once_answered m.ledger.manager) H talk.0 in
-      let next = step G (leads m.ledger.manager H (work_by m.ledger.manager G None) n talk.1.works refl) in
+      let G : List Event = life (once_answered m.ledger.manager m.ledger.saved) H talk.0 in
+      let next = step G (leads m.ledger.manager H (work_by m.ledger.manager m.ledger.saved G None) n talk.1.works refl) in
       let x : Ask = next.2.0 in
-      let P : Talk → Type 0 = λ z. Talks t n.ledger.manager G z o u v in
-      let Q : ℕ → Type 0 = λ k. Talks t k G (answered_one role x) o u v in
-      let one : Talks t m.ledger.manager G (answered_one role x) o u v = subst Q talk.1.works.number (subst P next.2.1 next.1) in
-      let count = talk.2 in
-      (x ∷ talk.0, talks_on t m.ledger.manager H role talk.0 (x ∷ []) None n o w u v joins chains talk.1 one, omega (arith, count));
+      let P : Talk → Type 0 = λ z. Talks t n.ledger.manager n.ledger.saved G z o u v in
+      let Q : ℕ → Type 0 = λ k. Talks t k m.ledger.saved G (answered_one role x) o u v in
+      let R : ℕ → Type 0 = λ k. Talks t n.ledger.manager k G (answered_one role x) o u v in
+      let one : Talks t m.ledger.manager m.ledger.saved G (answered_one role x) o u v = subst Q talk.1.works.number
+      (subst R talk.1.saves (subst P next.2.1 next.1)) in
+      let count = talk.2 in (
+        x ∷ talk.0,
+        talks_on t m.ledger.manager m.ledger.saved H role talk.0 (x ∷ []) None n o w u v joins chains talk.1 one,
+        omega
+            (arith, count),
+      );
   up = up;
   few = let before = so_far.few in omega (arith, before, more);
   within = inr few;
@@ -310,20 +320,31 @@ one_more_told t role m n o told w u v so_far leads joins chains step up more few
 pub ended_so_far : (t : outside.WorldTells) (role : Role) (m n o : Managed) (told : ℕ) (P : Closing → Type 0) (w u v : World)
     → TalksSoFar t role m n told w u → LeadsOn t.site w.site u.site → Joins t.site w.site u.site v.site
     → ChainsJoin t.site w.site u.site v.site
-    → ((H : List Event) → IsReady t.site n H u.site → (talk : Talk) × Talks t n.ledger.manager H talk o u v
+    → ((H : List Event) → IsReady t.site n H u.site → (talk : Talk) × Talks t n.ledger.manager n.ledger.saved H talk o u v
     × ((end : Closing) × (talk ≡ ended_so role end) × P end))
     → (H : List Event) → IsReady t.site m H w.site
-    → (asks : List Ask) × (end : Closing) × Talks t m.ledger.manager H (record { role = role; asks = asks; end = Some end }) o w v
+    → (asks : List Ask) × (end : Closing) × Talks t m.ledger.manager m.ledger.saved H (record {
+      role = role;
+      asks = asks;
+      end = Some end;
+    }) o w v
     × (told ≡ length asks) × P end
 ended_so_far t role m n o told P w u v so_far leads joins chains step H ready =
     let talk = so_far.each H ready in
-    let G : List Event = life (once_answered m.ledger.manager) H talk.0 in
-    let next = step G (leads m.ledger.manager H (work_by m.ledger.manager G None) n talk.1.works refl) in
+    let G : List Event = life (once_answered m.ledger.manager m.ledger.saved) H talk.0 in
+    let next = step G (leads m.ledger.manager H (work_by m.ledger.manager m.ledger.saved G None) n talk.1.works refl) in
     let end : Closing = next.2.0 in
-    let A : Talk → Type 0 = λ z. Talks t n.ledger.manager G z o u v in
-    let B : ℕ → Type 0 = λ k. Talks t k G (ended_so role end) o u v in
-    let one : Talks t m.ledger.manager G (ended_so role end) o u v = subst B talk.1.works.number (subst A next.2.1 next.1) in
-    (talk.0, end, talks_on t m.ledger.manager H role talk.0 [] (Some end) n o w u v joins chains talk.1 one, talk.2, next.2.2)
+    let A : Talk → Type 0 = λ z. Talks t n.ledger.manager n.ledger.saved G z o u v in
+    let B : ℕ → Type 0 = λ k. Talks t k m.ledger.saved G (ended_so role end) o u v in
+    let C : ℕ → Type 0 = λ k. Talks t n.ledger.manager k G (ended_so role end) o u v in
+    let one : Talks t m.ledger.manager m.ledger.saved G (ended_so role end) o u v = subst B talk.1.works.number
+    (subst C talk.1.saves (subst A next.2.1 next.1)) in (
+      talk.0,
+      end,
+      talks_on t m.ledger.manager m.ledger.saved H role talk.0 [] (Some end) n o w u v joins chains talk.1 one,
+      talk.2,
+      next.2.2,
+    )
 
 -- no more replies were told than a connection may have requests
 pub told_few : (t : outside.WorldTells) (role : Role) (m n : Managed) (told : ℕ) (w v : World) → TalksSoFar t role m n told w v

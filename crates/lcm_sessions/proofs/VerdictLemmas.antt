@@ -1,10 +1,10 @@
 -- What a descriptor comes to, by the history and by what the commit of its event answered.
-use Rattle.std.proofs.Common.{◌≡◌, ◌<◌, ℕ, List, length, false, Option, Some, None, Result, Ok, Err, refl, sym, subst, ap, ◌∙◌}
+use Rattle.std.proofs.Common.{◌≡◌, ◌<◌, ◌-◌, arith, ℕ, List, length, false, Option, Some, None, Result, Ok, Err, refl, sym, subst, ap, ◌∙◌}
 use Rattle.std.specs.Prelude.{is_some}
 use Rattle.std.proofs.lemmas.Bool.{lt-leb, lt-ltb, le-ltb}
 use Rattle.event_codec.specs.Spell.{spelling}
 use Rattle.executor.specs.Managed.{Managed, MayRecord}
-use Rattle.executor.specs.Room.{HasRoomFor, TellsRoom}
+use Rattle.executor.specs.Room.{HasRoomFor, TellsRoom, journal_end}
 use Rattle.executor.specs.Work.{Work, Works, recorded}
 use Rattle.executor.specs.declared.manager.WorkFault.{WorkFault}
 use Rattle.executor.specs.declared.manager.WorkFault.TheVariants as work
@@ -32,7 +32,7 @@ none_named (Some vnfd) is = cc
 pub judges_new : (H : List Event) (vnfd : Vnfd) → is_some (descriptor_named H vnfd.descriptor_id) ≡ false
     → length (descriptors H) < MAX_DESCRIPTORS → IsValid vnfd → JudgesNew H vnfd (Ok vnfd)
 judges_new H vnfd unknown few valid = (
-  (λ now. rw (unknown, lt-leb MAX_DESCRIPTORS (length (descriptors H)) few) refl),
+  (λ saved now. rw (unknown, lt-leb MAX_DESCRIPTORS (length (descriptors H)) few) refl),
   record { valid = valid; unknown = none_named (descriptor_named H vnfd.descriptor_id) unknown; room = few },
 )
 
@@ -42,35 +42,38 @@ pub record IsRecorded (H : List Event) (now : ℕ) (event : Event) (v : Verdict)
   pub answer_is : answer ≡ judged_answer v (ended_by answer)
   pub work_is : recorded H event r ≡ worked H (onboarded now v) (ended_by answer)
 
-accepted_where : (H : List Event) (now : ℕ) (vnfd : Vnfd) → HasRoomFor MAX_FILE H (onboarding now vnfd)
-    → room_verdict H now vnfd ≡ accepted vnfd
-accepted_where H now vnfd has = rw (le-ltb MAX_RECORD (length (spelling (onboarding now vnfd))) has.fits, has.room) refl
+accepted_where : (z : ℕ) (H : List Event) (now : ℕ) (vnfd : Vnfd) → HasRoomFor MAX_FILE z H (onboarding now vnfd)
+    → room_verdict z H now vnfd ≡ accepted vnfd
+accepted_where z H now vnfd has = rw (le-ltb MAX_RECORD (length (spelling (onboarding now vnfd))) has.fits, has.room) refl
 
 -- it was recorded
-pub recorded_done : (H : List Event) (now : ℕ) (vnfd : Vnfd) (v : Verdict) → v ≡ room_verdict H now vnfd
-    → TellsRoom MAX_FILE H (onboarding now vnfd) (Ok tt)
+pub recorded_done : (z : ℕ) (H : List Event) (now : ℕ) (vnfd : Vnfd) (v : Verdict) → v ≡ room_verdict z H now vnfd
+    → TellsRoom MAX_FILE z H (onboarding now vnfd) (Ok tt)
     → IsRecorded H now (onboarding now vnfd) v (Ok tt) (Ok (said_of vnfd))
-recorded_done H now vnfd v is room = rw (is ∙ accepted_where H now vnfd room) (record { answer_is = refl; work_is = refl })
+recorded_done z H now vnfd v is room = rw (is ∙ accepted_where z H now vnfd room) (record { answer_is = refl; work_is = refl })
 
 -- it wasn't
-not_recorded : (H : List Event) (now : ℕ) (vnfd : Vnfd) (v : Verdict) (why : WorkFault) → v ≡ room_verdict H now vnfd
-    → TellsRoom MAX_FILE H (onboarding now vnfd) (Err why)
+not_recorded : (z : ℕ) (H : List Event) (now : ℕ) (vnfd : Vnfd) (v : Verdict) (why : WorkFault) → v ≡ room_verdict z H now vnfd
+    → TellsRoom MAX_FILE z H (onboarding now vnfd) (Err why)
     → IsRecorded H now (onboarding now vnfd) v (Err why) (Err (work_fault why))
-not_recorded H now vnfd v (work.TooLong n) is room =
+not_recorded z H now vnfd v (work.TooLong n) is room =
     rw (is, lt-ltb MAX_RECORD (length (spelling (onboarding now vnfd))) room.long, room.is) (record { answer_is = refl; work_is = refl })
-not_recorded H now vnfd v (work.Full end more) is room =
-    rw (is, le-ltb MAX_RECORD (length (spelling (onboarding now vnfd))) room.fits, room.full, room.end_is, room.more_is)
+not_recorded z H now vnfd v (work.Full end more) is room =
+    let end_is = room.end_is in
+    let before : end ≡ journal_end H - z = omega (arith, end_is) in
+    rw (is, le-ltb MAX_RECORD (length (spelling (onboarding now vnfd))) room.fits, room.full, before, room.more_is)
     (record { answer_is = refl; work_is = refl })
-not_recorded H now vnfd v work.Memory is room = record { answer_is = refl; work_is = refl }
-not_recorded H now vnfd v work.Disk is room = rw (is ∙ accepted_where H now vnfd room) (record { answer_is = refl; work_is = refl })
+not_recorded z H now vnfd v work.Memory is room = record { answer_is = refl; work_is = refl }
+not_recorded z H now vnfd v work.Disk is room = rw (is ∙ accepted_where z H now vnfd room) (record { answer_is = refl; work_is = refl })
 
-pub recorded_not : (H : List Event) (now : ℕ) (vnfd : Vnfd) (event : Event) (v : Verdict) (why : WorkFault) → event ≡ onboarding now vnfd
-    → v ≡ room_verdict H now vnfd → TellsRoom MAX_FILE H event (Err why)
+pub recorded_not : (z : ℕ) (H : List Event) (now : ℕ) (vnfd : Vnfd) (event : Event) (v : Verdict) (why : WorkFault)
+    → event ≡ onboarding now vnfd
+    → v ≡ room_verdict z H now vnfd → TellsRoom MAX_FILE z H event (Err why)
     → IsRecorded H now event v (Err why) (Err (work_fault why))
-recorded_not H now vnfd event v why same is room =
-    let P : Event → Type 0 = λ e. TellsRoom MAX_FILE H e (Err why) in
+recorded_not z H now vnfd event v why same is room =
+    let P : Event → Type 0 = λ e. TellsRoom MAX_FILE z H e (Err why) in
     let Q : Event → Type 0 = λ e. IsRecorded H now e v (Err why) (Err (work_fault why)) in
-    subst Q (sym same) (not_recorded H now vnfd v why is (subst P same room))
+    subst Q (sym same) (not_recorded z H now vnfd v why is (subst P same room))
 
 -- its event may be recorded
 pub may_record : (m : ℕ) (H : List Event) (now : ℕ) (vnfd : Vnfd) (event : Event) → event ≡ onboarding now vnfd → MayOnboard H vnfd

@@ -74,8 +74,9 @@ pub record BringsIn (t : WorldTells) (o : Onboarding) (a b : Peers) : Type 0 whe
   pub clock : t.clock → OnboardingAtClock o a.clock b.clock
   pub unnoted : b.mouth.told ≡ a.mouth.told
 
--- what onboarding does to the journal too; the manager is now n
-pub record Onboards (t : WorldTells) (m : ℕ) (H : List Event) (o : Onboarding) (n : Managed)
+-- what onboarding does to the journal too, which saves so many bytes then as before; the manager is now n
+pub record Onboards (t : WorldTells) (m saved : ℕ) (H : List Event) (o : Onboarding) (n : Managed)
     (w v : World) : Type 0 where
-  pub works : Works t.site m H (onboarding_work H o) n w.site v.site
+  pub works : Works t.site m H (onboarding_work saved H o) n w.site v.site
+  pub saves : n.ledger.saved ≡ saved
   pub brings : BringsIn t o (peers_of w) (peers_of v)

@@ -7,16 +7,18 @@ use Rattle.lcm_sessions.specs.Verdict.{refused, new_verdict, room_verdict, verdi
 use Rattle.lcm_sessions.specs.declared.answer.OnboardFault.{OnboardFault}
 use Rattle.lcm_sessions.specs.declared.answer.OnboardFault.TheVariants as fault
 
--- what a descriptor that was read comes to but for its room, whenever it is judged: it is refused, or it may be
--- onboarded
+-- what a descriptor that was read comes to but for its room, whenever it is judged and whatever the journal saves: it
+-- is refused, or it may be onboarded
 abbrev pub JudgesNew : List Event → Vnfd → Result Vnfd OnboardFault → Type 0
-JudgesNew H vnfd (Ok same) = ((now : ℕ) → new_verdict H now vnfd ≡ room_verdict H now same) × MayOnboard H same
-JudgesNew H vnfd (Err (fault.Refused why)) = (now : ℕ) → new_verdict H now vnfd ≡ refused why
+JudgesNew H vnfd (Ok same) = ((saved now : ℕ) → new_verdict saved H now vnfd ≡ room_verdict saved H now same)
+    × MayOnboard H same
+JudgesNew H vnfd (Err (fault.Refused why)) = (saved now : ℕ) → new_verdict saved H now vnfd ≡ refused why
 JudgesNew H vnfd (Err other) = ⊥
 
 -- what its bytes come to
 abbrev pub Judges : List Event → List ℕ → Result Vnfd OnboardFault → Type 0
-Judges H bytes (Ok vnfd) = ((now : ℕ) → verdict H now bytes ≡ room_verdict H now vnfd) × MayOnboard H vnfd
-Judges H bytes (Err (fault.Refused why)) = (now : ℕ) → verdict H now bytes ≡ refused why
+Judges H bytes (Ok vnfd) = ((saved now : ℕ) → verdict saved H now bytes ≡ room_verdict saved H now vnfd)
+    × MayOnboard H vnfd
+Judges H bytes (Err (fault.Refused why)) = (saved now : ℕ) → verdict saved H now bytes ≡ refused why
 Judges H bytes (Err fault.Memory) = Unit {0}
 Judges H bytes (Err other) = ⊥

@@ -29,12 +29,12 @@ worked H events done = went (events ++ H)
 worked H events starving = went H
 worked H events breaking = broke H (events ++ H)
 
--- the work of onboarding behind history H
-abbrev pub onboarding_work : List Event → Onboarding → Work
-onboarding_work H unready = went H
-onboarding_work H unheard = went H
-onboarding_work H (cut_off bytes) = went H
-onboarding_work H (heard bytes now ended) = worked H (onboarded now (verdict H now bytes)) ended
+-- the work of onboarding behind history H, in a journal that saves so many bytes
+abbrev pub onboarding_work : ℕ → List Event → Onboarding → Work
+onboarding_work saved H unready = went H
+onboarding_work saved H unheard = went H
+onboarding_work saved H (cut_off bytes) = went H
+onboarding_work saved H (heard bytes now ended) = worked H (onboarded now (verdict saved H now bytes)) ended
 
 -- what is said of a descriptor: its identifier, and how many VDUs, aspects and levels it has
 abbrev pub said_of : Vnfd → Onboarded
@@ -58,12 +58,12 @@ judged_answer v done = verdict_answer v
 judged_answer v starving = Err fault.Memory
 judged_answer v breaking = Err fault.Disk
 
--- what is answered
-abbrev pub answer_of : List Event → Onboarding → Result Onboarded OnboardFault
-answer_of H unready = Err fault.Memory
-answer_of H unheard = Err fault.Door
-answer_of H (cut_off bytes) = Err fault.Door
-answer_of H (heard bytes now ended) = judged_answer (verdict H now bytes) ended
+-- what is answered behind history H, where the journal saves so many bytes
+abbrev pub answer_of : ℕ → List Event → Onboarding → Result Onboarded OnboardFault
+answer_of saved H unready = Err fault.Memory
+answer_of saved H unheard = Err fault.Door
+answer_of saved H (cut_off bytes) = Err fault.Door
+answer_of saved H (heard bytes now ended) = judged_answer (verdict saved H now bytes) ended
 
 -- the bytes were refused as no JSON object
 abbrev pub is_no_object : Result Onboarded OnboardFault → Bool

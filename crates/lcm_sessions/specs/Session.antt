@@ -52,19 +52,20 @@ abbrev pub life : {X : Type 0} → (List Event → X → List Event) → List Ev
 life next H [] = H
 life next H (x ∷ before) = next (life next H before) x
 
--- what a request comes to behind history H of manager m, for its role and at the moment of the clock's value, which is
--- the last of the year 9999 at most
-abbrev pub outcome_of : ℕ → List Event → Ask → Outcome
-outcome_of m H x = outcome m H (min x.value 253402300799999) x.role x.request
+-- what a request comes to behind history H of manager m, whose journal saves so many bytes, for its role and at the
+-- moment of the clock's value, which is the last of the year 9999 at most
+abbrev pub outcome_of : ℕ → ℕ → List Event → Ask → Outcome
+outcome_of m saved H x = outcome m saved H (min x.value 253402300799999) x.role x.request
 
 -- the history once a request was answered
-abbrev pub once_answered : ℕ → List Event → Ask → List Event
-once_answered m H x = (outcome_of m H x).after ++ H
+abbrev pub once_answered : ℕ → ℕ → List Event → Ask → List Event
+once_answered m saved H x = (outcome_of m saved H x).after ++ H
 
 -- the replies, the latest first, each to its request behind the history that those before it left
-abbrev pub replies : ℕ → List Event → List Ask → List Reply
-replies m H [] = []
-replies m H (x ∷ before) = (outcome_of m (life (once_answered m) H before) x).reply ∷ replies m H before
+abbrev pub replies : ℕ → ℕ → List Event → List Ask → List Reply
+replies m saved H [] = []
+replies m saved H (x ∷ before) =
+    (outcome_of m saved (life (once_answered m saved) H before) x).reply ∷ replies m saved H before
 
 -- the bytes of these replies, the latest first, in the order in which they are told
 abbrev pub said : List Reply → List ℕ
@@ -92,29 +93,29 @@ abbrev pub taken_by : Talk → List Ask
 taken_by talk = asked_by talk.end ++ talk.asks
 
 -- what is told at the end, behind history H: 503 for want of memory, 500 where the disk failed
-abbrev pub reply_last : ℕ → List Event → Last → Option Reply
-reply_last m H over = None
-reply_last m H (unheard cause reply) = reply
-reply_last m H (untold x) = Some (outcome_of m H x).reply
-reply_last m H (starving x) = Some starved
-reply_last m H (breaking x) = Some faulted
+abbrev pub reply_last : ℕ → ℕ → List Event → Last → Option Reply
+reply_last m saved H over = None
+reply_last m saved H (unheard cause reply) = reply
+reply_last m saved H (untold x) = Some (outcome_of m saved H x).reply
+reply_last m saved H (starving x) = Some starved
+reply_last m saved H (breaking x) = Some faulted
 
 -- the work that is done at the end, behind history H: a reply that couldn't be told whole is none the less kept
-abbrev pub work_last : ℕ → List Event → Last → Work
-work_last m H over = went H
-work_last m H (unheard cause reply) = went H
-work_last m H (untold x) = went (once_answered m H x)
-work_last m H (starving x) = went H
-work_last m H (breaking x) = broke H (once_answered m H x)
+abbrev pub work_last : ℕ → ℕ → List Event → Last → Work
+work_last m saved H over = went H
+work_last m saved H (unheard cause reply) = went H
+work_last m saved H (untold x) = went (once_answered m saved H x)
+work_last m saved H (starving x) = went H
+work_last m saved H (breaking x) = broke H (once_answered m saved H x)
 
 -- the work so far behind history H: all that was answered, and what the end does
-abbrev pub work_by : ℕ → List Event → Option Closing → Work
-work_by m H None = went H
-work_by m H (Some end) = work_last m H end.last
+abbrev pub work_by : ℕ → ℕ → List Event → Option Closing → Work
+work_by m saved H None = went H
+work_by m saved H (Some end) = work_last m saved H end.last
 
 -- the work of a session behind history H
-abbrev pub work_of : ℕ → List Event → Talk → Work
-work_of m H talk = work_by m (life (once_answered m) H talk.asks) talk.end
+abbrev pub work_of : ℕ → ℕ → List Event → Talk → Work
+work_of m saved H talk = work_by m saved (life (once_answered m saved) H talk.asks) talk.end
 
 -- there is something to tell at the end
 abbrev pub has_reply : Last → Bool
@@ -128,18 +129,19 @@ told_last None = 0
 told_last (Some end) = if has_reply end.last && is_ok end.told then 1 else 0
 
 -- the histories behind the replies that were told whole, the latest first: behind each its request is answered
-abbrev pub behind_replies : ℕ → List Event → List Ask → List (List Event)
-behind_replies m H [] = []
-behind_replies m H (x ∷ before) = life (once_answered m) H (x ∷ before) ∷ behind_replies m H before
+abbrev pub behind_replies : ℕ → ℕ → List Event → List Ask → List (List Event)
+behind_replies m saved H [] = []
+behind_replies m saved H (x ∷ before) = life (once_answered m saved) H (x ∷ before) ∷ behind_replies m saved H before
 
 -- the history behind what is told at the end, where there is something to tell
-abbrev pub behind_last : ℕ → List Event → Option Closing → List (List Event)
-behind_last m H None = []
-behind_last m H (Some end) = if has_reply end.last then stood (work_last m H end.last) ∷ [] else []
+abbrev pub behind_last : ℕ → ℕ → List Event → Option Closing → List (List Event)
+behind_last m saved H None = []
+behind_last m saved H (Some end) = if has_reply end.last then stood (work_last m saved H end.last) ∷ [] else []
 
 -- the histories behind all that is told in a session, the latest first
-abbrev pub behind_told : ℕ → List Event → Talk → List (List Event)
-behind_told m H talk = behind_last m (life (once_answered m) H talk.asks) talk.end ++ behind_replies m H talk.asks
+abbrev pub behind_told : ℕ → ℕ → List Event → Talk → List (List Event)
+behind_told m saved H talk =
+    behind_last m saved (life (once_answered m saved) H talk.asks) talk.end ++ behind_replies m saved H talk.asks
 
 -- the disk failed at the end
 abbrev pub is_breaking : Last → Bool

@@ -44,22 +44,23 @@ IsStep role talk step.Over = (end : Closing) × (talk ≡ ended_so role end) × 
 IsStep role talk step.Broken = (end : Closing) × (talk ≡ ended_so role end) × (breaks (Some end) ≡ true)
 
 -- nothing came in, and what is said went out
-pub record Replies (m : ℕ) (H : List Event) (talk : Talk) (a b : DoorState) : Type 0 where
+pub record Replies (m saved : ℕ) (H : List Event) (talk : Talk) (a b : DoorState) : Type 0 where
   pub final : List ℕ
-  pub final_is : SaysLast m (life (once_answered m) H talk.asks) talk.end final
-  pub door : Converses [] (said (replies m H talk.asks) ++ final) a b
+  pub final_is : SaysLast m saved (life (once_answered m saved) H talk.asks) talk.end final
+  pub door : Converses [] (said (replies m saved H talk.asks) ++ final) a b
 
--- what answering the request in hand does
-pub record Responds (t : outside.WorldTells) (m : ℕ) (H : List Event) (talk : Talk) (n : Managed)
+-- what answering the request in hand does; the journal saves as much as before
+pub record Responds (t : outside.WorldTells) (m saved : ℕ) (H : List Event) (talk : Talk) (n : Managed)
     (w v : World) : Type 0 where
-  pub works : Works t.site m H (work_of m H talk) n w.site v.site
-  pub replies : t.door → Replies m H talk w.mouth.wire.intake.door v.mouth.wire.intake.door
+  pub works : Works t.site m H (work_of m saved H talk) n w.site v.site
+  pub saves : n.ledger.saved ≡ saved
+  pub replies : t.door → Replies m saved H talk w.mouth.wire.intake.door v.mouth.wire.intake.door
   pub clock : t.clock → GaveAll (taken_by talk) w.clock v.clock
   pub ends : Ends t.door talk.end w.mouth.wire v.mouth.wire
   pub faults : v.mouth.wire.intake.counts ≡ counts_behind talk.end w.mouth.wire.intake.counts
   pub kept : OnlyAtDoor w.mouth v.mouth
   pub counts : NoNextFault w.mouth.wire.intake.counts v.mouth.wire.intake.counts
-  pub told : AreTold t.site m (behind_told m H talk) w.mouth.told v.mouth.told w.site v.site
+  pub told : AreTold t.site m (behind_told m saved H talk) w.mouth.told v.mouth.told w.site v.site
 
 -- the talk is about this request, which was taken for its role
 pub record IsAbout (r : Request) (talk : Talk) : Type 0 where

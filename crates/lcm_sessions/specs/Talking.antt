@@ -79,16 +79,16 @@ IsSaid None (Ok done) bytes = bytes ≡ []
 IsSaid None (Err failed) bytes = ⊥
 
 -- the bytes that go out at the end, behind history H
-abbrev pub SaysLast : ℕ → List Event → Option Closing → List ℕ → Type 0
-SaysLast m H None bytes = bytes ≡ []
-SaysLast m H (Some end) bytes = IsSaid (reply_last m H end.last) end.told bytes
+abbrev pub SaysLast : ℕ → ℕ → List Event → Option Closing → List ℕ → Type 0
+SaysLast m saved H None bytes = bytes ≡ []
+SaysLast m saved H (Some end) bytes = IsSaid (reply_last m saved H end.last) end.told bytes
 
 -- What went out are the replies to the requests, in order, and behind them what is told at the end.
-pub record Speaks (m : ℕ) (H : List Event) (talk : Talk) (a b : DoorState) : Type 0 where
+pub record Speaks (m saved : ℕ) (H : List Event) (talk : Talk) (a b : DoorState) : Type 0 where
   pub read : List ℕ
   pub final : List ℕ
-  pub final_is : SaysLast m (life (once_answered m) H talk.asks) talk.end final
-  pub door : Converses read (said (replies m H talk.asks) ++ final) a b
+  pub final_is : SaysLast m saved (life (once_answered m saved) H talk.asks) talk.end final
+  pub door : Converses read (said (replies m saved H talk.asks) ++ final) a b
 
 -- what is told where the bytes that are left are no request: 400 where they are bad, 413 where they are too big, 503
 -- for want of memory, and nothing where they stop short or a read failed
@@ -127,35 +127,40 @@ Ends tells None a b = Unit {0}
 Ends tells (Some end) a b = EndsFor tells end.last end.told a b
 
 -- What a session does to the connection and the clock, or as much of it as was done so far, over history H of manager
--- m.
-pub record Holds (t : WorldTells) (m : ℕ) (H : List Event) (talk : Talk) (a b : Peers) : Type 0 where
+-- m, whose journal saves so many bytes.
+pub record Holds (t : WorldTells) (m saved : ℕ) (H : List Event) (talk : Talk) (a b : Peers) : Type 0 where
   pub roles : AreFor talk.role (taken_by talk)
   pub requests : t.door → AreRequests (taken_by talk) (remains_of a.mouth.wire) (remains_of b.mouth.wire)
-  pub speaks : t.door → Speaks m H talk a.mouth.wire.intake.door b.mouth.wire.intake.door
+  pub speaks : t.door → Speaks m saved H talk a.mouth.wire.intake.door b.mouth.wire.intake.door
   pub clock : t.clock → GaveAll (taken_by talk) a.clock b.clock
   pub ends : Ends t.door talk.end a.mouth.wire b.mouth.wire
   pub faults : b.mouth.wire.intake.counts ≡ counts_behind talk.end a.mouth.wire.intake.counts
   pub counts : NoNextFault a.mouth.wire.intake.counts b.mouth.wire.intake.counts
 
--- What it does to the journal too; the manager is now n. From the telling of each reply on no stop takes back the
--- history behind it.
-pub record Talks (t : WorldTells) (m : ℕ) (H : List Event) (talk : Talk) (n : Managed) (w v : World) : Type 0 where
-  pub works : Works t.site m H (work_of m H talk) n w.site v.site
-  pub holds : Holds t m H talk (peers_of w) (peers_of v)
-  pub told : AreTold t.site m (behind_told m H talk) w.mouth.told v.mouth.told w.site v.site
+-- What it does to the journal too; the manager is now n, and the journal saves as much as before. From the telling of
+-- each reply on no stop takes back the history behind it.
+pub record Talks (t : WorldTells) (m saved : ℕ) (H : List Event) (talk : Talk) (n : Managed)
+    (w v : World) : Type 0 where
+  pub works : Works t.site m H (work_of m saved H talk) n w.site v.site
+  pub saves : n.ledger.saved ≡ saved
+  pub holds : Holds t m saved H talk (peers_of w) (peers_of v)
+  pub told : AreTold t.site m (behind_told m saved H talk) w.mouth.told v.mouth.told w.site v.site
 
 -- a session was held to its end, and then the connection was ended
-pub record Attends (t : WorldTells) (m : ℕ) (H : List Event) (talk : Talk) (a b : Peers) : Type 0 where
+pub record Attends (t : WorldTells) (m saved : ℕ) (H : List Event) (talk : Talk) (a b : Peers) : Type 0 where
   pub between : MouthState
   pub end : Closing
   pub ended : talk.end ≡ Some end
-  pub holds : Holds t m H talk a (record { mouth = between; clock = b.clock })
+  pub holds : Holds t m saved H talk a (record { mouth = between; clock = b.clock })
   pub role : between.role ≡ talk.role
   pub gone : t.door → HangsUp between.wire.intake.door b.mouth.wire.intake.door
   pub counts : b.mouth.wire.intake.counts ≡ closed between.wire.intake.counts
 
--- What serving a connection does. From the telling of each reply on no stop takes back the history behind it.
-pub record Serves (t : WorldTells) (m : ℕ) (H : List Event) (talk : Talk) (n : Managed) (w v : World) : Type 0 where
-  pub works : Works t.site m H (work_of m H talk) n w.site v.site
-  pub attends : Attends t m H talk (peers_of w) (peers_of v)
-  pub told : AreTold t.site m (behind_told m H talk) w.mouth.told v.mouth.told w.site v.site
+-- What serving a connection does. The journal saves as much as before. From the telling of each reply on no stop takes
+-- back the history behind it.
+pub record Serves (t : WorldTells) (m saved : ℕ) (H : List Event) (talk : Talk) (n : Managed)
+    (w v : World) : Type 0 where
+  pub works : Works t.site m H (work_of m saved H talk) n w.site v.site
+  pub saves : n.ledger.saved ≡ saved
+  pub attends : Attends t m saved H talk (peers_of w) (peers_of v)
+  pub told : AreTold t.site m (behind_told m saved H talk) w.mouth.told v.mouth.told w.site v.site

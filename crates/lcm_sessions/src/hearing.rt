@@ -37,10 +37,10 @@ pub fn onboard<S: Site, D: Door, K: Clock>(
 ) -> Result<Onboarded, OnboardFault>
     requires ready { (H : List Event) × IsReady S.tells manager.old H (S.state site.old) }
     ensures onboards { (H : List Event) → IsReady S.tells manager.old H (S.state site.old) → (o : Onboarding)
-        × Onboards (telling S.tells D.tells K.tells) manager.old.ledger.manager H o manager.new
+        × Onboards (telling S.tells D.tells K.tells) manager.old.ledger.manager manager.old.ledger.saved H o manager.new
         (world (S.state site.old) mouth.old (K.state clock.old))
         (world (S.state site.new) mouth.new (K.state clock.new))
-        × (result ≡ answer_of H o) }
+        × (result ≡ answer_of manager.old.ledger.saved H o) }
     ensures disk { OnlyDiskFails (result ≡ Err OnboardFault.Disk) (S.counts site.old) (S.counts site.new) }
     ensures door { OnlyDoorFails (result ≡ Err OnboardFault.Door) mouth.old.wire.intake.counts
         mouth.new.wire.intake.counts }
@@ -62,10 +62,10 @@ fn onboard_into<S: Site, D: Door, K: Clock>(
     requires room { length room.old ≡ MAX_READ }
     requires ready { (H : List Event) × IsReady S.tells manager.old H (S.state site.old) }
     ensures onboards { (H : List Event) → IsReady S.tells manager.old H (S.state site.old) → (o : Onboarding)
-        × Onboards (telling S.tells D.tells K.tells) manager.old.ledger.manager H o manager.new
+        × Onboards (telling S.tells D.tells K.tells) manager.old.ledger.manager manager.old.ledger.saved H o manager.new
         (world (S.state site.old) mouth.old (K.state clock.old))
         (world (S.state site.new) mouth.new (K.state clock.new))
-        × (result ≡ answer_of H o) }
+        × (result ≡ answer_of manager.old.ledger.saved H o) }
     ensures disk { OnlyDiskFails (result ≡ Err OnboardFault.Disk) (S.counts site.old) (S.counts site.new) }
 {
     works_add_up::<S>();

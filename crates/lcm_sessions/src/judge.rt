@@ -32,11 +32,12 @@ pub fn take_in<S: Site>(
 ) -> Result<Onboarded, OnboardFault>
     requires ready { (H : List Event) × IsReady S.tells manager.old H (S.state site.old) }
     ensures answer { (H : List Event) → Keeps manager.old H
-        → result ≡ judged_answer (verdict H now bytes.now) (ended_by result) }
+        → result ≡ judged_answer (verdict manager.old.ledger.saved H now bytes.now) (ended_by result) }
     ensures works { (H : List Event) → IsReady S.tells manager.old H (S.state site.old)
         → Works S.tells manager.old.ledger.manager H
-        (worked H (onboarded now (verdict H now bytes.now)) (ended_by result)) manager.new (S.state site.old)
-        (S.state site.new) }
+        (worked H (onboarded now (verdict manager.old.ledger.saved H now bytes.now)) (ended_by result)) manager.new
+        (S.state site.old) (S.state site.new) }
+    ensures saved { manager.new.ledger.saved ≡ manager.old.ledger.saved }
     ensures disk { OnlyDiskFails (result ≡ Err OnboardFault.Disk) (S.counts site.old) (S.counts site.new) }
 {
     works_add_up::<S>();
@@ -62,7 +63,9 @@ fn record_event<S: Site>(
         → MayRecord manager.old.ledger.manager H event.now
         → Works S.tells manager.old.ledger.manager H (recorded H event.now result) manager.new (S.state site.old)
         (S.state site.new) }
-    ensures room { (H : List Event) → Keeps manager.old H → TellsRoom MAX_FILE H event.now result }
+    ensures saved { manager.new.ledger.saved ≡ manager.old.ledger.saved }
+    ensures room { (H : List Event) → Keeps manager.old H
+        → TellsRoom MAX_FILE manager.old.ledger.saved H event.now result }
     ensures disk { OnlyDiskFails (result ≡ Err WorkFault.Disk) (S.counts site.old) (S.counts site.new) }
 {
     manager.commit(alloc, site, event, MAX_FILE)

@@ -59,7 +59,8 @@ pub fn answer_session<S: Site, D: Door, K: Clock>(
     requires up { mouth.old.wire.intake.counts.up ≡ true }
     requires ready { (H : List Event) × IsReady S.tells manager.old H (S.state site.old) }
     ensures serves { (H : List Event) → IsReady S.tells manager.old H (S.state site.old) → (talk : Talk)
-        × Serves (telling S.tells D.tells K.tells) manager.old.ledger.manager H talk manager.new
+        × Serves (telling S.tells D.tells K.tells) manager.old.ledger.manager manager.old.ledger.saved H talk
+        manager.new
         (world (S.state site.old) mouth.old (K.state clock.old))
         (world (S.state site.new) mouth.new (K.state clock.new))
         × (talk.role ≡ role) × Answers talk result }
@@ -83,7 +84,7 @@ fn talk<S: Site, D: Door, K: Clock>(
     requires ready { (H : List Event) × IsReady S.tells manager.old H (S.state site.old) }
     ensures talks { (H : List Event) → IsReady S.tells manager.old H (S.state site.old)
         → (talk : Talk) × (end : Closing) × (talk.end ≡ Some end)
-        × Talks (telling S.tells D.tells K.tells) manager.old.ledger.manager H talk manager.new
+        × Talks (telling S.tells D.tells K.tells) manager.old.ledger.manager manager.old.ledger.saved H talk manager.new
         (world (S.state site.old) mouth.old (K.state clock.old))
         (world (S.state site.new) mouth.new (K.state clock.new))
         × (talk.role ≡ role) × Answers talk result }
@@ -116,7 +117,7 @@ fn answer_next<S: Site, D: Door, K: Clock>(
     requires up { mouth.old.wire.intake.counts.up ≡ true }
     requires ready { (H : List Event) × IsReady S.tells manager.old H (S.state site.old) }
     ensures talks { (H : List Event) → IsReady S.tells manager.old H (S.state site.old) → (talk : Talk)
-        × Talks (telling S.tells D.tells K.tells) manager.old.ledger.manager H talk manager.new
+        × Talks (telling S.tells D.tells K.tells) manager.old.ledger.manager manager.old.ledger.saved H talk manager.new
         (world (S.state site.old) mouth.old (K.state clock.old))
         (world (S.state site.new) mouth.new (K.state clock.new))
         × IsStep role talk result }
@@ -150,7 +151,8 @@ fn respond<S: Site, D: Door, K: Clock>(
     requires ready { (H : List Event) × IsReady S.tells manager.old H (S.state site.old) }
     ensures responds { (H : List Event) → IsReady S.tells manager.old H (S.state site.old) → (r : Request)
         → mouth.old.hand ≡ Some r → (talk : Talk)
-        × Responds (telling S.tells D.tells K.tells) manager.old.ledger.manager H talk manager.new
+        × Responds (telling S.tells D.tells K.tells) manager.old.ledger.manager manager.old.ledger.saved H talk
+        manager.new
         (world (S.state site.old) mouth.old (K.state clock.old))
         (world (S.state site.new) mouth.new (K.state clock.new))
         × IsAbout r talk × IsStep mouth.old.role talk result }

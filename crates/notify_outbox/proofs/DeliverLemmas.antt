@@ -69,52 +69,55 @@ held_by t place (fault.BadRecord n) is = is
 held_by t place fault.Disk is = is
 held_by t place fault.Memory is = is
 
-untold_room : (t : LentTell) (now : ℕ) (H : List Event) (s place : ℕ) (why : DeliveryFault) → IsUnread t.site place why
-    → TellsPostRoom now H s (held place) (Err why)
-untold_room t now H s place (fault.Full end more) is = absurd is
-untold_room t now H s place (fault.BadRecord n) is = tt
-untold_room t now H s place fault.Disk is = tt
-untold_room t now H s place fault.Memory is = tt
+untold_room : (t : LentTell) (z now : ℕ) (H : List Event) (s place : ℕ) (why : DeliveryFault) → IsUnread t.site place why
+    → TellsPostRoom z now H s (held place) (Err why)
+untold_room t z now H s place (fault.Full end more) is = absurd is
+untold_room t z now H s place (fault.BadRecord n) is = tt
+untold_room t z now H s place fault.Disk is = tt
+untold_room t z now H s place fault.Memory is = tt
 
 -- the notice wasn't read
 pub held_unread : (t : LentTell) (m n : Managed) (now : ℕ) (H : List Event) (s place : ℕ) (why : DeliveryFault) (w v : Lent)
     → first_waiting m.ledger.manager H s ≡ Some place → ReadsBody t.site m H s place (Err why) n w.site v.site → v.carrier ≡ w.carrier
-    → (c : Course) × Delivers t (point m.ledger.manager now H) s c (Err why) n w v
-held_unread t m n now H s place why w v waits read same = (
+    → n.ledger.saved ≡ m.ledger.saved → (c : Course) × Delivers t (point m.ledger.manager m.ledger.saved now H) s c (Err why) n w v
+held_unread t m n now H s place why w v waits read same saved = (
   held place,
   record {
     course = (waits, held_by t place why read.1);
     carries = same;
     works = read.0;
-    room = untold_room t now H s place why read.1;
+    saved = saved;
+    room = untold_room t m.ledger.saved now H s place why read.1;
   },
 )
 
 -- its post couldn't be recorded
-pub held_unprepared : (t : LentTell) (k : ℕ) (n : Managed) (now : ℕ) (H : List Event) (s place : ℕ) (why : DeliveryFault) (w v : Lent)
+pub held_unprepared : (t : LentTell) (k z : ℕ) (n : Managed) (now : ℕ) (H : List Event) (s place : ℕ) (why : DeliveryFault) (w v : Lent)
     → first_waiting k H s ≡ Some place → Works t.site k H (went H) n w.site v.site → v.carrier ≡ w.carrier
-    → TellsRoomBefore now H s place (Err why)
-    → (c : Course) × Delivers t (point k now H) s c (Err why) n w v
-held_unprepared t k n now H s place fault.Memory w v waits works same room = (
+    → n.ledger.saved ≡ z → TellsRoomBefore z now H s place (Err why)
+    → (c : Course) × Delivers t (point k z now H) s c (Err why) n w v
+held_unprepared t k z n now H s place fault.Memory w v waits works same saved room = (
   held place,
   record {
     course = (waits, tt);
     carries = same;
     works = works;
+    saved = saved;
     room = tt;
   },
 )
-held_unprepared t k n now H s place (fault.Full end more) w v waits works same room = (
+held_unprepared t k z n now H s place (fault.Full end more) w v waits works same saved room = (
   held place,
   record {
     course = (waits, tt);
     carries = same;
     works = works;
+    saved = saved;
     room = room;
   },
 )
-held_unprepared t k n now H s place (fault.BadRecord i) w v waits works same room = absurd (room Delivered)
-held_unprepared t k n now H s place fault.Disk w v waits works same room = absurd (room Delivered)
+held_unprepared t k z n now H s place (fault.BadRecord i) w v waits works same saved room = absurd (room Delivered)
+held_unprepared t k z n now H s place fault.Disk w v waits works same saved room = absurd (room Delivered)
 
 -- what is known of a post: the callback, and what the courier tells
 abbrev pub IsPosted : LentTell → List Event → ℕ → List ℕ → PostAnswer → Carrier → Carrier → Type 0
@@ -122,14 +125,14 @@ IsPosted t H s body answer a b =
     (uri : List ℕ) × (callback H s ≡ Some uri) × (t.courier → Posts uri body answer a.state b.state)
 
 -- the notice was posted, and that was recorded
-pub sent_well : (t : LentTell) (j k : ℕ) (m n : Managed) (now : ℕ) (H : List Event) (s place : ℕ) (answer : PostAnswer) (body : List ℕ)
+pub sent_well : (t : LentTell) (j k z : ℕ) (m n : Managed) (now : ℕ) (H : List Event) (s place : ℕ) (answer : PostAnswer) (body : List ℕ)
     (e : Event) (b : SiteState) (w v : Lent)
     → j ≡ k → first_waiting k H s ≡ Some place → e ≡ posted_event now s place (outcome_of answer)
     → Works t.site k H (went H) m w.site b → Works t.site j H (recorded_post H e (Ok tt)) n b v.site
     → Joins t.site w.site b v.site → (t.site → body_at k H s place ≡ Some body) → IsPosted t H s body answer w.carrier v.carrier
-    → PostCause answer w.carrier.counts v.carrier.counts → HasRoomFor MAX_FILE H e
-    → (c : Course) × Delivers t (point k now H) s c (Ok (delivery_of (outcome_of answer))) n w v
-sent_well t j k m n now H s place answer body e b w v number waits same first second joins of posted cause room =
+    → PostCause answer w.carrier.counts v.carrier.counts → n.ledger.saved ≡ z → HasRoomFor MAX_FILE z H e
+    → (c : Course) × Delivers t (point k z now H) s c (Ok (delivery_of (outcome_of answer))) n w v
+sent_well t j k z m n now H s place answer body e b w v number waits same first second joins of posted cause saved room =
     let p : Dispatch = record { subscription = s; place = place; answer = answer } in (
       sent p,
       record {
@@ -138,19 +141,20 @@ sent_well t j k m n now H s place answer body e b w v number waits same first se
         works = joins k H H (went (posted_event now s place (outcome_of answer) ∷ H)) m n first
             (subst (λ (x : Event). Works t.site k H (recorded_post H x (Ok tt)) n b v.site) same
             (subst (λ (i : ℕ). Works t.site i H (recorded_post H e (Ok tt)) n b v.site) number second));
-        room = subst (λ (x : Event). HasRoomFor MAX_FILE H x) same room;
+        saved = saved;
+        room = subst (λ (x : Event). HasRoomFor MAX_FILE z H x) same room;
       },
     )
 
 -- and the disk failed on the way there
-pub sent_broken : (t : LentTell) (j k : ℕ) (m n : Managed) (now : ℕ) (H : List Event) (s place : ℕ) (answer : PostAnswer) (body : List ℕ)
+pub sent_broken : (t : LentTell) (j k z : ℕ) (m n : Managed) (now : ℕ) (H : List Event) (s place : ℕ) (answer : PostAnswer) (body : List ℕ)
     (e : Event) (why : DeliveryFault) (b : SiteState) (w v : Lent)
     → j ≡ k → why ≡ fault.Disk → first_waiting k H s ≡ Some place → e ≡ posted_event now s place (outcome_of answer)
     → Works t.site k H (went H) m w.site b → Works t.site j H (recorded_post H e (Err why)) n b v.site
     → Joins t.site w.site b v.site → (t.site → body_at k H s place ≡ Some body) → IsPosted t H s body answer w.carrier v.carrier
-    → PostCause answer w.carrier.counts v.carrier.counts → HasRoomFor MAX_FILE H e
-    → (c : Course) × Delivers t (point k now H) s c (Err why) n w v
-sent_broken t j k m n now H s place answer body e fault.Disk b w v number is waits same first second joins of posted cause room =
+    → PostCause answer w.carrier.counts v.carrier.counts → n.ledger.saved ≡ z → HasRoomFor MAX_FILE z H e
+    → (c : Course) × Delivers t (point k z now H) s c (Err why) n w v
+sent_broken t j k z m n now H s place answer body e fault.Disk b w v number is waits same first second joins of posted cause saved room =
     let p : Dispatch = record { subscription = s; place = place; answer = answer } in (
       sent p,
       record {
@@ -159,11 +163,15 @@ sent_broken t j k m n now H s place answer body e fault.Disk b w v number is wai
         works = joins k H H _ m n first
             (subst (λ (x : Event). Works t.site k H (recorded_post H x (Err fault.Disk)) n b v.site) same
             (subst (λ (i : ℕ). Works t.site i H (recorded_post H e (Err fault.Disk)) n b v.site) number second));
-        room = subst (λ (x : Event). HasRoomFor MAX_FILE H x) same room;
+        saved = saved;
+        room = subst (λ (x : Event). HasRoomFor MAX_FILE z H x) same room;
       },
     )
-sent_broken t j k m n now H s place answer body e fault.Memory b w v number is waits same first second joins of posted cause room = cc
-sent_broken t j k m n now H s place answer body e (fault.BadRecord i) b w v number is waits same first second joins of posted cause room =
+sent_broken t j k z m n now H s place answer body e fault.Memory b w v number is waits same first second joins of posted cause saved room
+    = cc
+sent_broken t j k z m n now H s place answer body e (fault.BadRecord i) b w v number is waits same first second joins of posted cause
+    saved room =
     cc
-sent_broken t j k m n now H s place answer body e (fault.Full end more) b w v number is waits same first second joins of posted cause room =
+sent_broken t j k z m n now H s place answer body e (fault.Full end more) b w v number is waits same first second joins of posted cause
+    saved room =
     cc

@@ -399,14 +399,14 @@ made_before t m now H (p ∷ before) x a b did (inr later) = made_before t m now
 made_before t m now H (p ∷ before) x a b did (inl same) =
     subst (λ (d : Dispatch). HasItsEvent H d.place) same (from_beginning m now H before p.subscription p.place did.2.next)
 
-either_made : (t : LentTell) (m now : ℕ) (H : List Event) (ps : List Dispatch) (end : RoundEnd) (x : Dispatch) (a b c : Carrier)
-    → DispatchesDo t m now H ps a b → EndDoes t m now (once_all_dispatched now H ps) end b c → IsIn x (all_made ps end)
+either_made : (t : LentTell) (m z now : ℕ) (H : List Event) (ps : List Dispatch) (end : RoundEnd) (x : Dispatch) (a b c : Carrier)
+    → DispatchesDo t m now H ps a b → EndDoes t m z now (once_all_dispatched now H ps) end b c → IsIn x (all_made ps end)
     → HasItsEvent H x.place
-either_made t m now H ps through x a b c did does there = made_before t m now H ps x a b did there
-either_made t m now H ps (stopped s idle why) x a b c did does there = made_before t m now H ps x a b did there
-either_made t m now H ps (stopped s (held place) why) x a b c did does there = made_before t m now H ps x a b did there
-either_made t m now H ps (stopped s (sent p) why) x a b c did does (inr before) = made_before t m now H ps x a b did before
-either_made t m now H ps (stopped s (sent p) why) x a b c did does (inl same) =
+either_made t m z now H ps through x a b c did does there = made_before t m now H ps x a b did there
+either_made t m z now H ps (stopped s idle why) x a b c did does there = made_before t m now H ps x a b did there
+either_made t m z now H ps (stopped s (held place) why) x a b c did does there = made_before t m now H ps x a b did there
+either_made t m z now H ps (stopped s (sent p) why) x a b c did does (inr before) = made_before t m now H ps x a b did before
+either_made t m z now H ps (stopped s (sent p) why) x a b c did does (inl same) =
     subst (λ (d : Dispatch). HasItsEvent H d.place) same (from_beginning m now H ps p.subscription p.place does.1.next)
 
 -- and each stop leaves it since the deliveries began
@@ -415,7 +415,8 @@ pub stands_since : (t : LentTell) (p : Point) (ps : List Dispatch) (end : RoundE
     → (e : Event) × LeavesOnly (LeavesEvent p.manager x.place e) w.site v.site
 stands_since t p ps end n w v did told x there =
     let K = end_work p.moment (once_all_dispatched p.moment p.history ps) end in
-    let has = either_made t p.manager p.moment p.history ps end x w.carrier did.between v.carrier did.dispatches_do did.end_does there in (
+    let has = either_made t p.manager p.saved p.moment p.history ps end x w.carrier did.between v.carrier did.dispatches_do did.end_does
+    there in (
       has.event,
       weakened (LeavesEvent p.manager x.place has.event) (HasSome p.manager p.history (aimed K)) w.site v.site
           (did.works.site told).any_moment

@@ -175,6 +175,7 @@ few_dispatches p ns k ps order =
 pub record SoFar (t : LentTell) (m n : Managed) (now k : ℕ) (made : Deliveries) (H : List Event) (w v : Lent) : Type 0 where
   pub dispatches : List Dispatch
   pub works : Works t.site m.ledger.manager H (went (once_all_dispatched now H dispatches)) n w.site v.site
+  pub saved : n.ledger.saved ≡ m.ledger.saved
   pub dispatches_do : DispatchesDo t m.ledger.manager now H dispatches w.carrier v.carrier
   pub order : numbers_of dispatches ≡ filter (waits m.ledger.manager H) (take k (live_numbers H))
   pub counts : CountsDispatches made dispatches
@@ -188,6 +189,7 @@ pub none_yet : (t : LentTell) (m : Managed) (now : ℕ) (w : Lent) → Idles t.s
 none_yet t m now w idles = λ H ready. record {
   dispatches = [];
   works = idles m H ready;
+  saved = refl;
   dispatches_do = refl;
   order = front_none (waits m.ledger.manager H) (live_numbers H);
   counts = record { delivered = refl; not_taken = refl };
@@ -256,7 +258,7 @@ by_course : (t : LentTell) (m n p : Managed) (now k s : ℕ) (made : Deliveries)
     → (it : SoFar t m n now k made H w u) → slice_get (live_numbers H) k ≡ Some s
     → first_waiting m.ledger.manager (once_all_dispatched now H it.dispatches) s ≡ first_waiting m.ledger.manager H s → k < 2 ^ 64 - 1
     → Joins t.site w.site u.site v.site → (c : Course)
-    → Delivers t (point m.ledger.manager now (once_all_dispatched now H it.dispatches)) s c (Ok done) p u v
+    → Delivers t (point m.ledger.manager m.ledger.saved now (once_all_dispatched now H it.dispatches)) s c (Ok done) p u v
     → SoFar t m p now (k + 1) (counted done made) H w v
 by_course t m n p now k s made done H w u v it at still few joins idle did =
     let i = m.ledger.manager in
@@ -265,6 +267,7 @@ by_course t m n p now k s made done H w u v it at still few joins idle did =
     record {
       dispatches = it.dispatches;
       works = joins i H G (went G) n p it.works did.works;
+      saved = did.saved;
       dispatches_do = subst (λ (x : Carrier). DispatchesDo t i now H it.dispatches w.carrier x) (sym did.carries) it.dispatches_do;
       order = it.order ∙ (sym (nil_right (filter (waits i H) (take k (live_numbers H))))
           ∙ sym (front_more (waits i H) (live_numbers H) k s false at none));
@@ -281,6 +284,7 @@ by_course t m n p now k s made done H w u v it at still few joins (sent d) did =
     record {
       dispatches = d ∷ it.dispatches;
       works = joins i H G (went (once_dispatched now G d)) n p it.works did.works;
+      saved = did.saved;
       dispatches_do = (u.carrier, it.dispatches_do, did.carries);
       order = reverse-cons d.subscription (map (λ (x : Dispatch). x.subscription) it.dispatches)
           ∙ (ap (λ (ns : List ℕ). ns ++ d.subscription ∷ []) it.order
@@ -294,7 +298,8 @@ by_course t m n p now k s made done H w u v it at still few joins (sent d) did =
 pub one_delivery_more : (t : LentTell) (m n p : Managed) (now k s : ℕ) (made more : Deliveries) (done : Delivery) (w u v : Lent)
     → more ≡ counted done made → RoundSoFar t m n now k made w u → LeadsOn t.site w.site u.site → Joins t.site w.site u.site v.site
     → ((G : List Event) → IsReady t.site n G u.site → slice_get (live_numbers G) k ≡ Some s)
-    → ((G : List Event) → IsReady t.site n G u.site → (c : Course) × Delivers t (point n.ledger.manager now G) s c (Ok done) p u v)
+    → ((G : List Event) → IsReady t.site n G u.site → (c : Course) × Delivers t (point n.ledger.manager n.ledger.saved now G) s c
+    (Ok done) p u v)
     → k < 2 ^ 64 - 1 → RoundSoFar t m p now (k + 1) more w v
 one_delivery_more t m n p now k s made more done w u v is so_far leads joins next deliver few = λ H ready.
     let it = so_far H ready in
@@ -306,19 +311,22 @@ one_delivery_more t m n p now k s made more done w u v is so_far leads joins nex
     subst (λ (x : Deliveries). SoFar t m p now (k + 1) x H w v) (sym is)
     (by_course t m n p now k s made done H w u v it at
     (still_waits m.ledger.manager now H s k it.dispatches ready.keeps.kept.legal at it.order) few joins did.0
-    (subst (λ (i : ℕ). Delivers t (point i now G) s did.0 (Ok done) p u v) it.works.number did.1))
+    (subst (λ (i : ℕ). Delivers t (point i m.ledger.saved now G) s did.0 (Ok done) p u v) it.works.number
+    (subst (λ (z : ℕ). Delivers t (point n.ledger.manager z now G) s did.0 (Ok done) p u v) it.saved did.1)))
 
 -- all deliveries were made
 pub went_through : (t : LentTell) (m n : Managed) (now k : ℕ) (made : Deliveries) (w v : Lent) → RoundSoFar t m n now k made w v
     → ((H : List Event) → IsReady t.site m H w.site → length (live_numbers H) ≤ k)
     → (H : List Event) → IsReady t.site m H w.site
-    → (ps : List Dispatch) × (end : RoundEnd) × DeliversAll t (point m.ledger.manager now H) ps end n w v × EndsRound (Ok made) ps end
+    → (ps : List Dispatch) × (end : RoundEnd) × DeliversAll t (point m.ledger.manager m.ledger.saved now H) ps end n w v × EndsRound
+    (Ok made) ps end
 went_through t m n now k made w v so_far over H ready =
     let it = so_far H ready in (
       it.dispatches,
       through,
       record {
         works = it.works;
+        saved = it.saved;
         between = v.carrier;
         dispatches_do = it.dispatches_do;
         end_does = refl;
@@ -342,9 +350,11 @@ must_wait t m G s (sent d) (fault.Full end more) a b course carries = absurd cou
 pub was_stopped : (t : LentTell) (m n p : Managed) (now k s : ℕ) (made : Deliveries) (why : DeliveryFault) (w u v : Lent)
     → RoundSoFar t m n now k made w u → LeadsOn t.site w.site u.site → Joins t.site w.site u.site v.site
     → ((G : List Event) → IsReady t.site n G u.site → slice_get (live_numbers G) k ≡ Some s)
-    → ((G : List Event) → IsReady t.site n G u.site → (c : Course) × Delivers t (point n.ledger.manager now G) s c (Err why) p u v)
+    → ((G : List Event) → IsReady t.site n G u.site → (c : Course) × Delivers t (point n.ledger.manager n.ledger.saved now G) s c
+    (Err why) p u v)
     → (H : List Event) → IsReady t.site m H w.site
-    → (ps : List Dispatch) × (end : RoundEnd) × DeliversAll t (point m.ledger.manager now H) ps end p w v × EndsRound (Err why) ps end
+    → (ps : List Dispatch) × (end : RoundEnd) × DeliversAll t (point m.ledger.manager m.ledger.saved now H) ps end p w v × EndsRound
+    (Err why) ps end
 was_stopped t m n p now k s made why w u v so_far leads joins next deliver H ready =
     let i = m.ledger.manager in
     let it = so_far H ready in
@@ -353,8 +363,10 @@ was_stopped t m n p now k s made why w u v so_far leads joins next deliver H rea
     let upon = leads i H (went G) n it.works refl in
     let made_of = deliver G upon in
     let c : Course = made_of.0 in
-    let did : Delivers t (point i now G) s c (Err why) p u v =
-    subst (λ (j : ℕ). Delivers t (point j now G) s c (Err why) p u v) it.works.number made_of.1 in
+    let z = m.ledger.saved in
+    let did : Delivers t (point i z now G) s c (Err why) p u v =
+    subst (λ (j : ℕ). Delivers t (point j z now G) s c (Err why) p u v) it.works.number
+    (subst (λ (j : ℕ). Delivers t (point n.ledger.manager j now G) s c (Err why) p u v) it.saved made_of.1) in
     let at : slice_get ns k ≡ Some s =
     subst (λ (xs : List ℕ). slice_get xs k ≡ Some s) (live_through now H it.dispatches) (next G upon) in
     let still = still_waits i now H s k it.dispatches ready.keeps.kept.legal at it.order in
@@ -365,6 +377,7 @@ was_stopped t m n p now k s made why w u v so_far leads joins next deliver H rea
       stopped s c why,
       record {
         works = joins i H G (course_work now G c (Err why)) n p it.works did.works;
+        saved = did.saved;
         between = u.carrier;
         dispatches_do = it.dispatches_do;
         end_does = (did.course, did.carries, did.room);

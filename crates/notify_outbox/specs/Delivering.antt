@@ -56,18 +56,21 @@ abbrev pub Carries : LentTell → ℕ → List Event → Course → Carrier → 
 Carries t m H (sent p) a b = PostsNotice t m H p a b
 Carries t m H _ a b = b ≡ a
 
--- What the answer tells of the room behind history H: the journal is full with the event of a notice that wasn't
--- posted, whatever its outcome, and has room for that of one that was.
-abbrev pub TellsPostRoom : ℕ → List Event → ℕ → Course → Result Delivery DeliveryFault → Type 0
-TellsPostRoom now H s (held place) (Err (fault.Full end more)) =
-    (how : PostOutcome) → IsFullWith MAX_FILE H (posted_event now s place how) end more
-TellsPostRoom now H s (sent p) result = HasRoomFor MAX_FILE H (posted_event now s p.place (outcome_of p.answer))
-TellsPostRoom now H s _ result = Unit {0}
+-- What the answer tells of the room behind history H, in a journal that saves so many bytes: it is full with the event
+-- of a notice that wasn't posted, whatever its outcome, and has room for that of one that was.
+abbrev pub TellsPostRoom : ℕ → ℕ → List Event → ℕ → Course → Result Delivery DeliveryFault → Type 0
+TellsPostRoom saved now H s (held place) (Err (fault.Full end more)) =
+    (how : PostOutcome) → IsFullWith MAX_FILE saved H (posted_event now s place how) end more
+TellsPostRoom saved now H s (sent p) result =
+    HasRoomFor MAX_FILE saved H (posted_event now s p.place (outcome_of p.answer))
+TellsPostRoom saved now H s _ result = Unit {0}
 
--- A delivery to subscription s was made at this point of a manager, which is now n, took this course, and ended so.
+-- A delivery to subscription s was made at this point of a manager, which is now n, took this course, and ended so. Its
+-- journal saves as much as before.
 pub record Delivers (t : LentTell) (p : Point) (s : ℕ) (c : Course) (result : Result Delivery DeliveryFault)
     (n : Managed) (w v : Lent) : Type 0 where
   pub course : IsCourse t p.manager p.history s c result
   pub carries : Carries t p.manager p.history c w.carrier v.carrier
   pub works : Works t.site p.manager p.history (course_work p.moment p.history c result) n w.site v.site
-  pub room : TellsPostRoom p.moment p.history s c result
+  pub saved : n.ledger.saved ≡ p.saved
+  pub room : TellsPostRoom p.saved p.moment p.history s c result

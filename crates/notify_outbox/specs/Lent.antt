@@ -37,14 +37,16 @@ lent site counts state calls = record {
   carrier = carrier state calls;
 }
 
--- where notices are taken up: the manager's number, the moment, and the history, the latest event first
+-- where notices are taken up: the manager's number, how many bytes its journal saves, the moment, and the history, the
+-- latest event first
 pub record Point : Type 0 where
   pub manager : ℕ
+  pub saved : ℕ
   pub moment : ℕ
   pub history : List Event
 
-abbrev pub point : ℕ → ℕ → List Event → Point
-point m now H = record { manager = m; moment = now; history = H }
+abbrev pub point : ℕ → ℕ → ℕ → List Event → Point
+point m saved now H = record { manager = m; saved = saved; moment = now; history = H }
 
 -- One post was made, of the first notice that waits for its subscription over history H of manager m, to its callback,
 -- and was answered so. Where the site tells, its body is the notice's, by the history; where the courier tells, it

@@ -16,16 +16,17 @@ abbrev pub is_post : EventKind → Bool
 is_post (Posted subscription place outcome) = true
 is_post _ = false
 
--- what the answer tells of the room for this event behind history H
-abbrev pub TellsRoomOf : List Event → Event → Result (Unit {0}) DeliveryFault → Type 0
-TellsRoomOf H e (Ok done) = HasRoomFor MAX_FILE H e
-TellsRoomOf H e (Err (fault.Full end more)) = IsFullWith MAX_FILE H e end more
-TellsRoomOf H e (Err other) = ⊥
+-- what the answer tells of the room for this event behind history H, in a journal that saves so many bytes
+abbrev pub TellsRoomOf : ℕ → List Event → Event → Result (Unit {0}) DeliveryFault → Type 0
+TellsRoomOf saved H e (Ok done) = HasRoomFor MAX_FILE saved H e
+TellsRoomOf saved H e (Err (fault.Full end more)) = IsFullWith MAX_FILE saved H e end more
+TellsRoomOf saved H e (Err other) = ⊥
 
 -- the same of a post, for every outcome: what is asked for before it, also want of memory
-abbrev pub TellsRoomBefore : ℕ → List Event → ℕ → ℕ → Result (Unit {0}) DeliveryFault → Type 0
-TellsRoomBefore now H s place (Err fault.Memory) = Unit {0}
-TellsRoomBefore now H s place result = (how : PostOutcome) → TellsRoomOf H (posted_event now s place how) result
+abbrev pub TellsRoomBefore : ℕ → ℕ → List Event → ℕ → ℕ → Result (Unit {0}) DeliveryFault → Type 0
+TellsRoomBefore saved now H s place (Err fault.Memory) = Unit {0}
+TellsRoomBefore saved now H s place result =
+    (how : PostOutcome) → TellsRoomOf saved H (posted_event now s place how) result
 
 -- what recording an event for which there is room does to a history: the event is in it, or the disk failed on the way
 -- there

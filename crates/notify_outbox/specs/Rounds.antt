@@ -53,10 +53,10 @@ end_work now H through = went H
 end_work now H (stopped s c why) = course_work now H c (Err why)
 
 -- what the end of a round does with the courier, and tells of the room in the journal
-abbrev pub EndDoes : LentTell → ℕ → ℕ → List Event → RoundEnd → Carrier → Carrier → Type 0
-EndDoes t m now H through a b = b ≡ a
-EndDoes t m now H (stopped s c why) a b = IsCourse t m H s c (Err why) × Carries t m H c a b
-    × TellsPostRoom now H s c (Err why)
+abbrev pub EndDoes : LentTell → ℕ → ℕ → ℕ → List Event → RoundEnd → Carrier → Carrier → Type 0
+EndDoes t m saved now H through a b = b ≡ a
+EndDoes t m saved now H (stopped s c why) a b = IsCourse t m H s c (Err why) × Carries t m H c a b
+    × TellsPostRoom saved now H s c (Err why)
 
 -- the numbers of the subscriptions to which these were dispatched, the first one first
 abbrev pub numbers_of : List Dispatch → List ℕ
@@ -93,12 +93,14 @@ EndsRound (Err why) ps (stopped s c cause) = why ≡ cause
 EndsRound _ ps _ = ⊥
 
 -- These dispatches were made from this point of a manager on, which is now n, the latest first, and the round ended so:
--- for the subscriptions for which a notice waits there, in order, each behind what those before it left.
+-- for the subscriptions for which a notice waits there, in order, each behind what those before it left. Its journal
+-- saves as much as before.
 pub record DeliversAll (t : LentTell) (p : Point) (ps : List Dispatch) (end : RoundEnd) (n : Managed)
     (w v : Lent) : Type 0 where
   pub works : Works t.site p.manager p.history (end_work p.moment (once_all_dispatched p.moment p.history ps) end) n
       w.site v.site
+  pub saved : n.ledger.saved ≡ p.saved
   pub between : Carrier
   pub dispatches_do : DispatchesDo t p.manager p.moment p.history ps w.carrier between
-  pub end_does : EndDoes t p.manager p.moment (once_all_dispatched p.moment p.history ps) end between v.carrier
+  pub end_does : EndDoes t p.manager p.saved p.moment (once_all_dispatched p.moment p.history ps) end between v.carrier
   pub order : IsFor (due p.manager p.history) ps end

@@ -37,8 +37,8 @@ pub fn deliver<S: Site, C: Courier>(
 ) -> Result<Delivery, DeliveryFault>
     requires ready { (H : List Event) × IsReady S.tells manager.old H (S.state site.old) }
     ensures delivers { (H : List Event) → IsReady S.tells manager.old H (S.state site.old)
-        → (c : Course) × Delivers (telling S.tells C.tells) (point manager.old.ledger.manager now H) subscription c
-        result manager.new
+        → (c : Course) × Delivers (telling S.tells C.tells)
+        (point manager.old.ledger.manager manager.old.ledger.saved now H) subscription c result manager.new
         (lent (S.state site.old) (S.counts site.old) (C.state courier.old) (C.counts courier.old))
         (lent (S.state site.new) (S.counts site.new) (C.state courier.new) (C.counts courier.new)) }
     ensures disk { OnlyDiskFails (result ≡ Err DeliveryFault.Disk) (S.counts site.old) (S.counts site.new) }
@@ -64,8 +64,8 @@ fn deliver_at<S: Site, C: Courier>(
         × (first_waiting manager.old.ledger.manager H subscription ≡ Some place) }
     ensures delivers { (H : List Event) → IsReady S.tells manager.old H (S.state site.old)
         → first_waiting manager.old.ledger.manager H subscription ≡ Some place
-        → (c : Course) × Delivers (telling S.tells C.tells) (point manager.old.ledger.manager now H) subscription c
-        result manager.new
+        → (c : Course) × Delivers (telling S.tells C.tells)
+        (point manager.old.ledger.manager manager.old.ledger.saved now H) subscription c result manager.new
         (lent (S.state site.old) (S.counts site.old) (C.state courier.old) (C.counts courier.old))
         (lent (S.state site.new) (S.counts site.new) (C.state courier.new) (C.counts courier.new)) }
     ensures disk { OnlyDiskFails (result ≡ Err DeliveryFault.Disk) (S.counts site.old) (S.counts site.new) }

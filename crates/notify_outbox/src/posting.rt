@@ -91,7 +91,7 @@ pub fn prepare<S: Site>(
         → HasRoom (posted_event now subscription place how) manager.new.tables) }
     ensures room { (H : List Event) → IsReady S.tells manager.old H (S.state site.old)
         → first_waiting manager.old.ledger.manager H subscription ≡ Some place
-        → TellsRoomBefore now H subscription place result }
+        → TellsRoomBefore manager.old.ledger.saved now H subscription place result }
     ensures disk { result ≢ Err DeliveryFault.Disk }
 {
     records_add_up();
@@ -113,7 +113,8 @@ fn has_room<S: Site>(
     requires kind { is_post event.now.kind ≡ true }
     ensures manager { manager.new ≡ manager.old }
     ensures site { site.new ≡ site.old }
-    ensures room { (H : List Event) → Keeps manager.old H → TellsRoomOf H event.now result }
+    ensures room { (H : List Event) → Keeps manager.old H
+        → TellsRoomOf manager.old.ledger.saved H event.now result }
     ensures disk { result ≢ Err DeliveryFault.Disk }
 {
     records_add_up();
@@ -137,7 +138,7 @@ fn has_room<S: Site>(
 fn fits(end: u64, more: u32) -> bool
     ensures { IsTrue result ↔ journal.HasRoom end more MAX_FILE }
 {
-    end <= MAX_FILE - 6 && u64::from(more) <= MAX_FILE - 6 - end
+    end <= MAX_FILE - 10 && u64::from(more) <= MAX_FILE - 10 - end
 }
 
 /// Posts the body of a notice to the callback of its subscription.
@@ -169,12 +170,14 @@ pub fn record<S: Site>(
     event: &Event,
 ) -> Result<(), DeliveryFault>
     requires may { (H : List Event) × IsReady S.tells manager.old H (S.state site.old)
-        × MayRecord manager.old.ledger.manager H event.now × HasRoomFor MAX_FILE H event.now }
+        × MayRecord manager.old.ledger.manager H event.now
+        × HasRoomFor MAX_FILE manager.old.ledger.saved H event.now }
     requires reserved { HasRoom event.now manager.old.tables }
     ensures works { (H : List Event) → IsReady S.tells manager.old H (S.state site.old)
         → MayRecord manager.old.ledger.manager H event.now
         → Works S.tells manager.old.ledger.manager H (recorded_post H event.now result) manager.new (S.state site.old)
         (S.state site.new) }
+    ensures saved { manager.new.ledger.saved ≡ manager.old.ledger.saved }
     ensures only { (why : DeliveryFault) → result ≡ Err why → why ≡ DeliveryFault.Disk }
     ensures disk { OnlyDiskFails (result ≡ Err DeliveryFault.Disk) (S.counts site.old) (S.counts site.new) }
 {

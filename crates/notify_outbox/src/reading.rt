@@ -45,6 +45,7 @@ pub fn read_body<S: Site>(
     ensures reads { (H : List Event) → IsReady S.tells manager.old H (S.state site.old)
         → first_waiting manager.old.ledger.manager H subscription ≡ Some place
         → ReadsBody S.tells manager.old H subscription place result manager.new (S.state site.old) (S.state site.new) }
+    ensures saved { manager.new.ledger.saved ≡ manager.old.ledger.saved }
     ensures disk { OnlyDiskFails (result ≡ Err DeliveryFault.Disk) (S.counts site.old) (S.counts site.new) }
 {
     let event = manager.event_at(alloc, site, place)?;

@@ -54,7 +54,8 @@ pub fn deliver_all<S: Site, C: Courier>(
     requires ready { (H : List Event) × IsReady S.tells manager.old H (S.state site.old) }
     ensures delivers { (H : List Event) → IsReady S.tells manager.old H (S.state site.old)
         → (ps : List Dispatch) × (end : RoundEnd)
-        × DeliversAll (telling S.tells C.tells) (point manager.old.ledger.manager now H) ps end manager.new
+        × DeliversAll (telling S.tells C.tells) (point manager.old.ledger.manager manager.old.ledger.saved now H) ps end
+        manager.new
         (lent (S.state site.old) (S.counts site.old) (C.state courier.old) (C.counts courier.old))
         (lent (S.state site.new) (S.counts site.new) (C.state courier.new) (C.counts courier.new))
         × EndsRound result ps end }

@@ -49,7 +49,7 @@ disk_last P a b c none last =
 pub starved_act : (t : ReachTells) (m : Managed) (now : ℕ) (H : List Event) (o : ℕ) (asking : Bool) (s : SiteState) (i : SiteCounts)
     (told : OrchestratorState) (counts : CallCounts)
     → Idles t.site s → IsReady t.site m H s → next_action H o ≡ Some (exchanging asking)
-    → (d : Deed) × (d.occ ≡ o) × Acts t (point m.ledger.manager now H) d (Err fault.Memory) m (reach s i told counts)
+    → (d : Deed) × (d.occ ≡ o) × Acts t (point m.ledger.manager m.ledger.saved now H) d (Err fault.Memory) m (reach s i told counts)
     (reach s i told counts)
 starved_act t m now H o true s i told counts idles ready next = (
   record { occ = o; action = AskForGrant; exchange = nothing },
@@ -62,7 +62,7 @@ starved_act t m now H o true s i told counts idles ready next = (
       handled =
           record { jobs = λ tells. advances-refl s.jobs; answers = λ tells. refl; counts = alike_refl i };
     };
-    records = record { works = with_jobs t.site m.ledger.manager H (went H) m s s (idles m H ready); room = tt };
+    records = record { works = with_jobs t.site m.ledger.manager H (went H) m s s (idles m H ready); saved = refl; room = tt };
     ended = tt;
   },
 )
@@ -77,22 +77,22 @@ starved_act t m now H o false s i told counts idles ready next = (
       handled =
           record { jobs = λ tells. advances-refl s.jobs; answers = λ tells. refl; counts = alike_refl i };
     };
-    records = record { works = with_jobs t.site m.ledger.manager H (went H) m s s (idles m H ready); room = tt };
+    records = record { works = with_jobs t.site m.ledger.manager H (went H) m s s (idles m H ready); saved = refl; room = tt };
     ended = tt;
   },
 )
 
 -- the orchestrator was called, and what was answered taken
-pub exchanging_act : (t : ReachTells) (m now : ℕ) (H : List Event) (o : ℕ) (asking : Bool) (words : List ℕ) (ended : Call) (heard : Heard)
+pub exchanging_act : (t : ReachTells) (m z now : ℕ) (H : List Event) (o : ℕ) (asking : Bool) (words : List ℕ) (ended : Call) (heard : Heard)
     (result : Result Acted WorkFault) (n : Managed) (a b : SiteState) (i j : SiteCounts) (failed : Type 0) (x y : OrchestratorState)
     (c k : CallCounts) → next_action H o ≡ Some (exchanging asking)
     → IsExchangeOf m H o (exchanging asking) (exchange_of asking words ended heard)
     → Calls t.orchestrator (exchange_of asking words ended heard) (peer x c) (peer y k)
     → (t.site → KeepsJobs a b) → OnlyDiskFails failed i j
-    → Records t.site (point m now H) (kinds_for asking o (answer_heard asking (changes H o) ended heard)) result n a b
+    → Records t.site (point m z now H) (kinds_for asking o (answer_heard asking (changes H o) ended heard)) result n a b
     → IfOk result (λ done. done ≡ ending (exchanging asking) (answer_heard asking (changes H o) ended heard))
-    → (d : Deed) × (d.occ ≡ o) × Acts t (point m now H) d result n (reach a i x c) (reach b j y k)
-exchanging_act t m now H o true words ended heard result n a b i j failed x y c k next due calls alone only records ends = (
+    → (d : Deed) × (d.occ ≡ o) × Acts t (point m z now H) d result n (reach a i x c) (reach b j y k)
+exchanging_act t m z now H o true words ended heard result n a b i j failed x y c k next due calls alone only records ends = (
   record { occ = o; action = AskForGrant; exchange = asked words ended heard },
   refl,
   record {
@@ -110,7 +110,7 @@ exchanging_act t m now H o true words ended heard result n a b i j failed x y c 
     ended = ends;
   },
 )
-exchanging_act t m now H o false words ended heard result n a b i j failed x y c k next due calls alone only records ends = (
+exchanging_act t m z now H o false words ended heard result n a b i j failed x y c k next due calls alone only records ends = (
   record { occ = o; action = Poll; exchange = polled words ended heard },
   refl,
   record {
@@ -130,14 +130,14 @@ exchanging_act t m now H o false words ended heard result n a b i j failed x y c
 )
 
 -- the occurrence was moved on
-pub moving_act : (t : ReachTells) (m now : ℕ) (H : List Event) (o : ℕ) (to : OpState) (result : Result Acted WorkFault) (n : Managed)
+pub moving_act : (t : ReachTells) (m z now : ℕ) (H : List Event) (o : ℕ) (to : OpState) (result : Result Acted WorkFault) (n : Managed)
     (a b : SiteState) (i j : SiteCounts) (failed : Type 0)
     (told : OrchestratorState) (counts : CallCounts) → next_action H o ≡ Some (MoveTo to) → (t.site → KeepsJobs a b)
     → OnlyDiskFails failed i j
-    → Records t.site (point m now H) (Moved o to ∷ []) result n a b
+    → Records t.site (point m z now H) (Moved o to ∷ []) result n a b
     → IfOk result (λ done. done ≡ Recorded) → (d : Deed) × (d.occ ≡ o)
-    × Acts t (point m now H) d result n (reach a i told counts) (reach b j told counts)
-moving_act t m now H o to result n a b i j failed told counts next alone only records ends = (
+    × Acts t (point m z now H) d result n (reach a i told counts) (reach b j told counts)
+moving_act t m z now H o to result n a b i j failed told counts next alone only records ends = (
   record { occ = o; action = MoveTo to; exchange = nothing },
   refl,
   record {
@@ -175,11 +175,12 @@ uncounted (looked t answer) c alone = refl
 uncounted (aborted aborts t answer) c alone = refl
 
 -- an attempt was made
-pub attempting_act : (t : ReachTells) (m now : ℕ) (H : List Event) (o : ℕ) (result : Result Acted WorkFault) (n : Managed) (a b : SiteState)
+pub attempting_act : (t : ReachTells) (m z now : ℕ) (H : List Event) (o : ℕ) (result : Result Acted WorkFault) (n : Managed)
+    (a b : SiteState)
     (i j : SiteCounts) (told : OrchestratorState) (counts : CallCounts)
-    → (d : Deed) × (d.occ ≡ o) × Attempts t.site (point m now H) d result n (shows a i) (shows b j)
-    → (d : Deed) × (d.occ ≡ o) × Acts t (point m now H) d result n (reach a i told counts) (reach b j told counts)
-attempting_act t m now H o result n a b i j told counts it = (
+    → (d : Deed) × (d.occ ≡ o) × Attempts t.site (point m z now H) d result n (shows a i) (shows b j)
+    → (d : Deed) × (d.occ ≡ o) × Acts t (point m z now H) d result n (reach a i told counts) (reach b j told counts)
+attempting_act t m z now H o result n a b i j told counts it = (
   it.0,
   it.1,
   record {

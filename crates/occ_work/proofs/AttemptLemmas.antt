@@ -164,23 +164,23 @@ same_work now H t begin.Failed (Err fault.Memory) taken = refl
 same_work now H t begin.Failed (Err fault.Disk) taken = refl
 
 -- and the room that is told of it
-same_room : (now : ℕ) (H : List Event) (t : Tag) (answer : BeginAnswer) (result : Result Acted WorkFault)
+same_room : (z now : ℕ) (H : List Event) (t : Tag) (answer : BeginAnswer) (result : Result Acted WorkFault)
     → (answer ≡ begin.Begun → IsOk result)
-    → TellsRoom MAX_FILE H (record { moment = now; kind = Intent t }) (Ok tt)
-    → TellsRoomFor now (following t answer) (record { moment = now; kind = Intent t } ∷ H) result
-    → TellsRoomFor now (beginning t (answer_begun answer)) H result
-same_room now H t begin.Begun (Ok done) taken first then = first
-same_room now H t begin.Begun (Err why) taken first then = absurd (never_ok why (taken refl))
-same_room now H t (begin.Refused code) (Ok done) taken first then = then
-same_room now H t (begin.Refused code) (Err (fault.TooLong n)) taken first then = then
-same_room now H t (begin.Refused code) (Err (fault.Full end more)) taken first then = then
-same_room now H t (begin.Refused code) (Err fault.Memory) taken first then = then
-same_room now H t (begin.Refused code) (Err fault.Disk) taken first then = then
-same_room now H t begin.Failed (Ok done) taken first then = then
-same_room now H t begin.Failed (Err (fault.TooLong n)) taken first then = then
-same_room now H t begin.Failed (Err (fault.Full end more)) taken first then = then
-same_room now H t begin.Failed (Err fault.Memory) taken first then = then
-same_room now H t begin.Failed (Err fault.Disk) taken first then = then
+    → TellsRoom MAX_FILE z H (record { moment = now; kind = Intent t }) (Ok tt)
+    → TellsRoomFor z now (following t answer) (record { moment = now; kind = Intent t } ∷ H) result
+    → TellsRoomFor z now (beginning t (answer_begun answer)) H result
+same_room z now H t begin.Begun (Ok done) taken first then = first
+same_room z now H t begin.Begun (Err why) taken first then = absurd (never_ok why (taken refl))
+same_room z now H t (begin.Refused code) (Ok done) taken first then = then
+same_room z now H t (begin.Refused code) (Err (fault.TooLong n)) taken first then = then
+same_room z now H t (begin.Refused code) (Err (fault.Full end more)) taken first then = then
+same_room z now H t (begin.Refused code) (Err fault.Memory) taken first then = then
+same_room z now H t (begin.Refused code) (Err fault.Disk) taken first then = then
+same_room z now H t begin.Failed (Ok done) taken first then = then
+same_room z now H t begin.Failed (Err (fault.TooLong n)) taken first then = then
+same_room z now H t begin.Failed (Err (fault.Full end more)) taken first then = then
+same_room z now H t begin.Failed (Err fault.Memory) taken first then = then
+same_room z now H t begin.Failed (Err fault.Disk) taken first then = then
 
 -- how a begin may end
 begun_ends : (t : Tag) (work : Act) (answer : BeginAnswer) (result : Result Acted WorkFault) → (answer ≡ begin.Begun → IsOk result)
@@ -205,18 +205,18 @@ pub ready_behind : (tells : Type 0) (m : ℕ) (H G : List Event) (n : Managed) (
 ready_behind tells m H G n a b works = record { usable = works.closed; keeps = works.keeps; stands = λ told. (works.site told).stands refl }
 
 -- an attempt whose job was begun behind its intent, and what followed
-pub begun_attempt : (tells : Type 0) (m now : ℕ) (H : List Event) (t : Tag) (work : Act) (answer : BeginAnswer)
+pub begun_attempt : (tells : Type 0) (m z now : ℕ) (H : List Event) (t : Tag) (work : Act) (answer : BeginAnswer)
     (result : Result Acted WorkFault) (n p : Managed) (a b c d : SiteState)
     (one two : Type 0) (i j k l : SiteCounts) → next_action H t.occ ≡ Some (Begin t)
     → IsLegal m (with_events now (beginning t (answer_begun answer)) H) → IsAllowed m H (Intent t)
     → act_of H t ≡ Some work → Works tells m H (went (record { moment = now; kind = Intent t } ∷ H)) n a b
-    → TellsRoom MAX_FILE H (record { moment = now; kind = Intent t }) (Ok tt)
-    → (tells → Begins t work answer b c) → Puts tells (point m now (record { moment = now; kind = Intent t } ∷ H))
+    → TellsRoom MAX_FILE z H (record { moment = now; kind = Intent t }) (Ok tt)
+    → (tells → Begins t work answer b c) → Puts tells (point m z now (record { moment = now; kind = Intent t } ∷ H))
     (following t answer) result p c d → (tells → KeepsJobs c d)
     → (answer ≡ begin.Begun → IsOk result) → (result ≡ Err fault.Memory → ⊥) → IfOk result (λ done. done ≡ Recorded)
     → OnlyDiskFails one i j → k ≡ begin_counts answer j → OnlyDiskFails two k l
-    → (x : Deed) × (x.occ ≡ t.occ) × Attempts tells (point m now H) x result p (shows a i) (shows d l)
-begun_attempt tells m now H t work answer result n p a b c d one two i j k l next legal allowed does works room begins puts alone taken
+    → (x : Deed) × (x.occ ≡ t.occ) × Attempts tells (point m z now H) x result p (shows a i) (shows d l)
+begun_attempt tells m z now H t work answer result n p a b c d one two i j k l next legal allowed does works room begins puts alone taken
     memory ends before called behind =
     let G : List Event = record { moment = now; kind = Intent t } ∷ H in
     let w : Work = recording now (following t answer) G result in
@@ -254,7 +254,8 @@ begun_attempt tells m now H t work answer result n p a b c d one two i j k l nex
         };
         records = record {
           works = subst (λ (x : Work). WorksWithJobs tells m H x p a d) (same_work now H t answer result taken) all;
-          room = same_room now H t answer result taken room puts.room;
+          saved = puts.saved;
+          room = same_room z now H t answer result taken room puts.room;
         };
         ended = ends_begun answer result ends;
       },
@@ -266,13 +267,13 @@ begun_attempt tells m now H t work answer result n p a b c d one two i j k l nex
       ends_begun begin.Failed result ends = ends
 
 -- the room that is told of an intent that wasn't recorded
-unbegun_room : (now : ℕ) (H : List Event) (t : Tag) (why : WorkFault)
-    → (why ≢ fault.Memory → TellsRoom MAX_FILE H (record { moment = now; kind = Intent t }) (Err why))
-    → TellsRoomFor now (Intent t ∷ []) H (Err why)
-unbegun_room now H t (fault.TooLong n) room = room (λ is. cc)
-unbegun_room now H t (fault.Full end more) room = room (λ is. cc)
-unbegun_room now H t fault.Memory room = tt
-unbegun_room now H t fault.Disk room = room (λ is. cc)
+unbegun_room : (z now : ℕ) (H : List Event) (t : Tag) (why : WorkFault)
+    → (why ≢ fault.Memory → TellsRoom MAX_FILE z H (record { moment = now; kind = Intent t }) (Err why))
+    → TellsRoomFor z now (Intent t ∷ []) H (Err why)
+unbegun_room z now H t (fault.TooLong n) room = room (λ is. cc)
+unbegun_room z now H t (fault.Full end more) room = room (λ is. cc)
+unbegun_room z now H t fault.Memory room = tt
+unbegun_room z now H t fault.Disk room = room (λ is. cc)
 
 -- and its work
 unbegun_work : (now : ℕ) (H : List Event) (t : Tag) (why : WorkFault)
@@ -283,12 +284,13 @@ unbegun_work now H t fault.Memory = refl
 unbegun_work now H t fault.Disk = refl
 
 -- an attempt whose intent wasn't recorded, so that its job wasn't begun
-pub unbegun_attempt : (tells : Type 0) (m now : ℕ) (H : List Event) (t : Tag) (why : WorkFault) (n : Managed) (a b : SiteState)
+pub unbegun_attempt : (tells : Type 0) (m z now : ℕ) (H : List Event) (t : Tag) (why : WorkFault) (n : Managed) (a b : SiteState)
     (failed : Type 0) (i j : SiteCounts)
     → next_action H t.occ ≡ Some (Begin t) → Works tells m H (recorded H (record { moment = now; kind = Intent t }) (Err why)) n a b
-    → (why ≢ fault.Memory → TellsRoom MAX_FILE H (record { moment = now; kind = Intent t }) (Err why)) → OnlyDiskFails failed i j
-    → (x : Deed) × (x.occ ≡ t.occ) × Attempts tells (point m now H) x (Err why) n (shows a i) (shows b j)
-unbegun_attempt tells m now H t why n a b failed i j next works room only = (
+    → (why ≢ fault.Memory → TellsRoom MAX_FILE z H (record { moment = now; kind = Intent t }) (Err why)) → OnlyDiskFails failed i j
+    → n.ledger.saved ≡ z
+    → (x : Deed) × (x.occ ≡ t.occ) × Attempts tells (point m z now H) x (Err why) n (shows a i) (shows b j)
+unbegun_attempt tells m z now H t why n a b failed i j next works room only saved = (
   record { occ = t.occ; action = Begin t; exchange = nothing },
   refl,
   record {
@@ -301,7 +303,8 @@ unbegun_attempt tells m now H t why n a b failed i j next works room only = (
     };
     records = record {
       works = subst (λ (w : Work). WorksWithJobs tells m H w n a b) (unbegun_work now H t why) (with_jobs tells m H _ n a b works);
-      room = unbegun_room now H t why room;
+      saved = saved;
+      room = unbegun_room z now H t why room;
     };
     ended = tt;
   },
@@ -321,16 +324,16 @@ looks_starving false t = tt
 -- an attempt for which there was no memory: nothing was done
 pub starved_attempt : (tells : Type 0) (m : Managed) (now : ℕ) (H : List Event) (o : ℕ) (action : Action) (n : Managed) (s : SiteState)
     (i : SiteCounts) → next_action H o ≡ Some action
-    → IsStarving action → Works tells m.ledger.manager H (went H) n s s
-    → (x : Deed) × (x.occ ≡ o) × Attempts tells (point m.ledger.manager now H) x (Err fault.Memory) n (shows s i) (shows s i)
-starved_attempt tells m now H o action n s i next starves works = (
+    → IsStarving action → Works tells m.ledger.manager H (went H) n s s → n.ledger.saved ≡ m.ledger.saved
+    → (x : Deed) × (x.occ ≡ o) × Attempts tells (point m.ledger.manager m.ledger.saved now H) x (Err fault.Memory) n (shows s i) (shows s i)
+starved_attempt tells m now H o action n s i next starves works saved = (
   record { occ = o; action = action; exchange = nothing },
   refl,
   record {
     tried = record { next = next; exchange = inr (unexchanged action starves); ended = tt };
     alone = tt;
     handled = record { jobs = λ told. advances-refl s.jobs; answers = λ told. refl; counts = alike_refl i };
-    records = record { works = starved_records action starves; room = starved_room action starves };
+    records = record { works = starved_records action starves; saved = saved; room = starved_room action starves };
     ended = tt;
   },
 ) where
@@ -347,7 +350,7 @@ starved_attempt tells m now H o action n s i next starves works = (
   starved_records (AbortAndLook t) is = with_jobs tells m.ledger.manager H (went H) n s s works
   starved_records _ is = absurd is
 
-  starved_room : (x : Action) → IsStarving x → TellsRoomFor now (appended o x BeginTaken) H (Err fault.Memory)
+  starved_room : (x : Action) → IsStarving x → TellsRoomFor m.ledger.saved now (appended o x BeginTaken) H (Err fault.Memory)
   starved_room (Begin t) is = tt
   starved_room (Look t) is = tt
   starved_room (AbortAndLook t) is = tt
@@ -384,14 +387,14 @@ looked_ends true aborts t answer (Err fault.Disk) memory = tt
 looked_ends false aborts t answer (Err fault.Disk) memory = tt
 
 -- what is recorded of a job that was looked at, where running jobs may have ended before
-looked_records : (tells : Type 0) (m now : ℕ) (H : List Event) (t : Tag) (answer : LookAnswer) (result : Result Acted WorkFault)
+looked_records : (tells : Type 0) (m z now : ℕ) (H : List Event) (t : Tag) (answer : LookAnswer) (result : Result Acted WorkFault)
     (n p : Managed) (a b d : SiteState)
     → IsLegal m (with_events now (looking t (answer_looked answer)) H) → n.ledger.manager ≡ m → IsReady tells n H a
     → (tells → OnJobs Advances a b)
-    → (tells → LooksAs t answer a.jobs b.jobs) → Puts tells (point m now H) (looking t (answer_looked answer)) result p b d
+    → (tells → LooksAs t answer a.jobs b.jobs) → Puts tells (point m z now H) (looking t (answer_looked answer)) result p b d
     → (tells → KeepsJobs b d)
-    → Records tells (point m now H) (looking t (answer_looked answer)) result p a d
-looked_records tells m now H t answer result n p a b d legal number ready calls looks puts alone =
+    → Records tells (point m z now H) (looking t (answer_looked answer)) result p a d
+looked_records tells m z now H t answer result n p a b d legal number ready calls looks puts alone =
     let w : Work = recording now (looking t (answer_looked answer)) H result in
     let mid : WorksAtFile tells m H (went H) n a b =
     subst (λ (x : ℕ). WorksAtFile tells x H (went H) n a b) number (jobs_alone tells Advances n H a b ready calls) in
@@ -408,6 +411,7 @@ looked_records tells m now H t answer result n p a b d legal number ready calls 
             (few_looked t answer) legal behind
             (fits_looked t answer a.jobs b.jobs (looks told)));
       };
+      saved = puts.saved;
       room = puts.room;
     }
 
@@ -459,17 +463,17 @@ ends_alike (Ok done) one two same ends = ends ∙ same
 ends_alike (Err why) one two same ends = tt
 
 -- an attempt whose job was looked at, behind aborts or none
-pub inquired_attempt : (tells : Type 0) (m now : ℕ) (H : List Event) (o : ℕ) (forced : Bool) (aborts : List (Tag × AbortAnswer))
+pub inquired_attempt : (tells : Type 0) (m z now : ℕ) (H : List Event) (o : ℕ) (forced : Bool) (aborts : List (Tag × AbortAnswer))
     (t : Tag) (answer : LookAnswer) (result : Result Acted WorkFault) (n p : Managed) (a b d : SiteState) (two : Type 0)
     (i j k : SiteCounts) → next_action H o ≡ Some (look_at forced t)
     → (forced ≡ true → map (λ a. a.0) aborts ≡ open_of H o)
     → IsLegal m (with_events now (looking t (answer_looked answer)) H) → n.ledger.manager ≡ m → IsReady tells n H a
     → Inquires tells (look_exchange forced aborts t answer) (shows a i) (shows b j)
-    → Puts tells (point m now H) (looking t (answer_looked answer)) result p b d → (tells → KeepsJobs b d)
+    → Puts tells (point m z now H) (looking t (answer_looked answer)) result p b d → (tells → KeepsJobs b d)
     → (result ≡ Err fault.Memory → ⊥) → IfOk result (λ done. done ≡ ending (Look t) (answer_looked answer))
     → OnlyDiskFails two j k
-    → (x : Deed) × (x.occ ≡ o) × Attempts tells (point m now H) x result p (shows a i) (shows d k)
-inquired_attempt tells m now H o forced aborts t answer result n p a b d two i j k next all legal number ready asks puts alone memory
+    → (x : Deed) × (x.occ ≡ o) × Attempts tells (point m z now H) x result p (shows a i) (shows d k)
+inquired_attempt tells m z now H o forced aborts t answer result n p a b d two i j k next all legal number ready asks puts alone memory
     ends behind =
     let x : Exchange = look_exchange forced aborts t answer in
     let done : Deed = record { occ = o; action = look_at forced t; exchange = x } in
@@ -495,8 +499,8 @@ inquired_attempt tells m now H o forced aborts t answer result n p a b d two i j
           answers = λ tells. (alone tells).answers ∙ asks.answers tells;
           counts = subst (λ (c : SiteCounts). CountJobsAlike c k) asks.counts (alike_disk two j k behind);
         };
-        records = subst (λ (ks : List EventKind). Records tells (point m now H) ks result p a d) (sym kinds)
-            (looked_records tells m now H t answer result n p a b d legal number ready asks.calls (λ tells. (saw tells).1) puts alone);
+        records = subst (λ (ks : List EventKind). Records tells (point m z now H) ks result p a d) (sym kinds)
+            (looked_records tells m z now H t answer result n p a b d legal number ready asks.calls (λ tells. (saw tells).1) puts alone);
         ended = ends_alike result (ending (Look t) (answer_looked answer)) (ending (look_at forced t) (answered H done))
             (look_ending forced t answer ∙ ap (ending (look_at forced t)) (sym told)) ends;
       },

@@ -1,11 +1,12 @@
 -- The begin of an attempt's job, behind its intent: the file stays, and sound jobs stay sound.
-use Rattle.std.proofs.Common.{◌≡◌, ℕ, List, ◌∷◌, Some, sym, subst, refl, inl, inr, length}
+use Rattle.std.proofs.Common.{◌≡◌, ◌+◌, ℕ, List, ◌∷◌, Some, sym, subst, refl, inl, inr, length}
 use Rattle.std.specs.Prelude.{All}
 use Rattle.executor.specs.History.{HasHistory, spellings}
 use Rattle.executor.specs.Managed.{IsReady, Managed, StandsFor}
 use Rattle.executor.specs.Work.{HasSome, HasSomeSound, StaysSound, Works, WorksAtFile, went}
 use Rattle.executor.proofs.WorkLemmas.{everywhere, extends_one, extends_refl, extends_trans, some_everywhere, sound_everywhere, sound_now}
-use Rattle.journal_records.specs.File.{HasRecords, records, size}
+use Rattle.journal_records.specs.File.{HasRecords, batches, gate_place, records, size}
+use Rattle.journal_core.specs.Journal.{IsReadUpTo}
 use Rattle.journal_core.specs.Marks.{IsMark}
 use Rattle.lcm_events.specs.declared.acts.Act.{Act}
 use Rattle.lcm_events.specs.declared.attempts.Tag.{Tag}
@@ -31,8 +32,11 @@ stands_on step m H a b call stands =
         settled = settled_on step a b call stands.journal.settled;
         file = subst (λ (i : List ℕ). HasRecords m.ledger.manager (records i) i) back stands.journal.file;
         count = subst (λ (i : List ℕ). m.ledger.count ≡ length (records i)) back stands.journal.count;
-        end = subst (λ (i : List ℕ). m.ledger.end ≡ size (records i)) back stands.journal.end;
-        marks = subst (λ (i : List ℕ). All (IsMark (records i)) m.ledger.marks) back stands.journal.marks;
+        end = subst (λ (i : List ℕ). m.ledger.end ≡ gate_place (batches i)) back stands.journal.end;
+        saved = subst (λ (i : List ℕ). m.ledger.end + m.ledger.saved ≡ size (records i)) back stands.journal.saved;
+        marks = subst (λ (i : List ℕ). All (IsMark (batches i)) m.ledger.marks) back stands.journal.marks;
+        reading = subst (λ (i : List ℕ). IsReadUpTo (batches i) m.ledger.behind m.ledger.reading m.ledger.end i) back
+            stands.journal.reading;
       };
       records = subst (λ (i : List ℕ). records i ≡ spellings H) back stands.records;
       events = stands.events;

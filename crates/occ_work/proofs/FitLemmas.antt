@@ -210,19 +210,19 @@ attempts_fit time (Settled t how) event is =
 attempts_fit time _ event is = absurd (cc is)
 
 -- an event that fits isn't too long
-pub not_too_long : (H : List Event) (e : Event) (why : WorkFault) (n : ℕ) → length (spelling e) ≤ MAX_RECORD
-    → TellsRoom MAX_FILE H e (Err why) → why ≡ fault.TooLong n → ⊥
-not_too_long H e why n fits tells is =
-    let told : TellsRoom MAX_FILE H e (Err (fault.TooLong n)) = subst (λ (f : WorkFault). TellsRoom MAX_FILE H e (Err f)) is tells in
+pub not_too_long : (z : ℕ) (H : List Event) (e : Event) (why : WorkFault) (n : ℕ) → length (spelling e) ≤ MAX_RECORD
+    → TellsRoom MAX_FILE z H e (Err why) → why ≡ fault.TooLong n → ⊥
+not_too_long z H e why n fits tells is =
+    let told : TellsRoom MAX_FILE z H e (Err (fault.TooLong n)) = subst (λ (f : WorkFault). TellsRoom MAX_FILE z H e (Err f)) is tells in
     let long = told.long in
     omega (arith, long, fits)
 
 -- the same of an answer
-pub never_long : (H : List Event) (e : Event) (result : Result (Unit {0}) WorkFault) (n : ℕ) → length (spelling e) ≤ MAX_RECORD
-    → TellsRoom MAX_FILE H e result
+pub never_long : (z : ℕ) (H : List Event) (e : Event) (result : Result (Unit {0}) WorkFault) (n : ℕ) → length (spelling e) ≤ MAX_RECORD
+    → TellsRoom MAX_FILE z H e result
     → result ≡ Err (fault.TooLong n) → ⊥
-never_long H e result n fits tells is = not_too_long H e (fault.TooLong n) n fits
-    (subst (λ (r : Result (Unit {0}) WorkFault). TellsRoom MAX_FILE H e r) is tells) refl
+never_long z H e result n fits tells is = not_too_long z H e (fault.TooLong n) n fits
+    (subst (λ (r : Result (Unit {0}) WorkFault). TellsRoom MAX_FILE z H e r) is tells) refl
 
 -- the same of the fault of an answer
 pub fault_of : {T : Type 0} (x y : WorkFault) → ◌≡◌ {A = Result T WorkFault} (Err x) (Err y) → x ≡ y

@@ -268,33 +268,35 @@ kinds_by_row H o r xs asking ended heard kinds found same is =
     ap (λ (ys : List Change). kinds_for asking o (answer_heard asking ys ended heard)) (changes_of_row H o r found ∙ sym same) ∙ is
 
 -- what was recorded of one event was recorded of its kind
-pub records_as : (tells : Type 0) (m now : ℕ) (kinds : List EventKind) (H : List Event) (result : Result Acted WorkFault) (n : Managed)
+pub records_as : (tells : Type 0) (m z now : ℕ) (kinds : List EventKind) (H : List Event) (result : Result Acted WorkFault) (n : Managed)
     (a b : SiteState) (e : Event) (kind : EventKind)
-    → e ≡ record { moment = now; kind = kind } → kinds ≡ kind ∷ [] → Records tells (point m e.moment H) (e.kind ∷ []) result n a b
-    → Records tells (point m now H) kinds result n a b
-records_as tells m now kinds H result n a b e kind same one records =
-    subst (λ (ks : List EventKind). Records tells (point m now H) ks result n a b) (sym one)
-    (subst (λ (x : Event). Records tells (point m x.moment H) (x.kind ∷ []) result n a b) same records)
+    → e ≡ record { moment = now; kind = kind } → kinds ≡ kind ∷ [] → Records tells (point m z e.moment H) (e.kind ∷ []) result n a b
+    → Records tells (point m z now H) kinds result n a b
+records_as tells m z now kinds H result n a b e kind same one records =
+    subst (λ (ks : List EventKind). Records tells (point m z now H) ks result n a b) (sym one)
+    (subst (λ (x : Event). Records tells (point m z x.moment H) (x.kind ∷ []) result n a b) same records)
 
 -- nothing was recorded
 pub records_none : (tells : Type 0) (m : Managed) (now : ℕ) (kinds : List EventKind) (H : List Event) (done : Acted) (s : SiteState)
     → Idles tells s → IsReady tells m H s → kinds ≡ []
-    → Records tells (point m.ledger.manager now H) kinds (Ok done) m s s
+    → Records tells (point m.ledger.manager m.ledger.saved now H) kinds (Ok done) m s s
 records_none tells m now kinds H done s idles ready none =
-    subst (λ (ks : List EventKind). Records tells (point m.ledger.manager now H) ks (Ok done) m s s) (sym none)
-    (record { works = with_jobs tells m.ledger.manager H (went H) m s s (idles m H ready); room = tt })
+    subst (λ (ks : List EventKind). Records tells (point m.ledger.manager m.ledger.saved now H) ks (Ok done) m s s) (sym none)
+    (record { works = with_jobs tells m.ledger.manager H (went H) m s s (idles m H ready); saved = refl; room = tt })
 
 -- there was no memory for it
 pub records_starved : (tells : Type 0) (m : Managed) (now : ℕ) (kinds : List EventKind) (H : List Event) (s : SiteState) → AreFew kinds
     → Idles tells s → IsReady tells m H s
-    → Records tells (point m.ledger.manager now H) kinds (Err fault.Memory) m s s
+    → Records tells (point m.ledger.manager m.ledger.saved now H) kinds (Err fault.Memory) m s s
 records_starved tells m now [] H s few idles ready = record {
   works = with_jobs tells m.ledger.manager H (went H) m s s (idles m H ready);
+  saved = refl;
   room = tt;
 }
 records_starved tells m now (k ∷ []) H s few idles ready = record {
   works =
       with_jobs tells m.ledger.manager H (went H) m s s (idles m H ready);
+  saved = refl;
   room = tt;
 }
 records_starved tells m now (k ∷ l ∷ more) H s few idles ready = absurd few
@@ -339,12 +341,12 @@ pub recorded_at_file : (tells : Type 0) (m : ℕ) (H : List Event) (e : Event) (
 recorded_at_file tells m H e why n a b works = subst (λ (w : Work). WorksAtFile tells m H w n a b) (one_recorded H e why) works
 
 -- and what is told of its room is told of that of its kind
-pub one_room : (H : List Event) (e : Event) (why : WorkFault) → TellsRoom MAX_FILE H e (Err why)
-    → TellsRoomFor e.moment (e.kind ∷ []) H (Err why)
-one_room H e (fault.TooLong n) room = room
-one_room H e (fault.Full end more) room = room
-one_room H e fault.Memory room = tt
-one_room H e fault.Disk room = room
+pub one_room : (z : ℕ) (H : List Event) (e : Event) (why : WorkFault) → TellsRoom MAX_FILE z H e (Err why)
+    → TellsRoomFor z e.moment (e.kind ∷ []) H (Err why)
+one_room z H e (fault.TooLong n) room = room
+one_room z H e (fault.Full end more) room = room
+one_room z H e fault.Memory room = tt
+one_room z H e fault.Disk room = room
 
 ends_poll : (o : ℕ) (answer : Answer) (kind : EventKind) → polling o answer ≡ kind ∷ [] → ending Poll answer ≡ Recorded
 ends_poll o (GrantLater at) kind e = cc

@@ -31,6 +31,7 @@ numbers_of deeds = reverse (map (λ d. d.occ) deeds)
 pub record SoFar (t : ReachTells) (m n : Managed) (now after : ℕ) (turn : Turn) (H : List Event) (w v : Reach) : Type 0 where
   pub deeds : List Deed
   pub works : WorksWithJobs t.site m.ledger.manager H (went (once_all_done now H deeds)) n w.site v.site
+  pub saved : n.ledger.saved ≡ m.ledger.saved
   pub deeds_do : DeedsDo t m.ledger.manager now H deeds (around w) (around v)
   pub order : numbers_of deeds ++ above after (active (once_all_done now H deeds)) ≡ active H
   pub counts : CountsEndings turn (endings now H deeds)
@@ -44,6 +45,7 @@ pub none_yet : (t : ReachTells) (m : Managed) (now : ℕ) (w : Reach) → Idles 
 none_yet t m now w idles = λ H ready. record {
   deeds = [];
   works = with_jobs t.site m.ledger.manager H (went H) m w.site w.site (idles m H ready);
+  saved = refl;
   deeds_do = refl;
   order = all_above_zero m.ledger.manager H ready.keeps.kept.legal;
   counts = record { acted = refl; waiting = refl; unreached = refl };
@@ -126,7 +128,8 @@ pub one_act_more : (t : ReachTells) (m n p : Managed) (now after o : ℕ) (turn 
     → TurnSoFar t m n now after turn w u
     → WorksWithJobsLeadOn t.site w.site u.site → WorksWithJobsJoin t.site w.site u.site v.site
     → ((G : List Event) → IsReady t.site n G u.site → (find (λ k. nat_lt after k) (active G) ≡ Some o) × (length G < 268435456))
-    → ((G : List Event) → IsReady t.site n G u.site → (d : Deed) × (d.occ ≡ o) × Acts t (point n.ledger.manager now G) d (Ok done) p u v)
+    → ((G : List Event) → IsReady t.site n G u.site → (d : Deed) × (d.occ ≡ o) × Acts t (point n.ledger.manager n.ledger.saved now G) d
+    (Ok done) p u v)
     → ((ends : List Acted) → length ends < 4294967295 → CountsEndings turn ends → CountsEndings counted (done ∷ ends))
     → TurnSoFar t m p now o counted w v
 one_act_more t m n p now after o turn counted done w u v so_far leads joins next act counts = λ H ready.
@@ -137,8 +140,9 @@ one_act_more t m n p now after o turn counted done w u v so_far leads joins next
     let did = act G upon in
     let d : Deed = did.0 in
     let number : n.ledger.manager ≡ m.ledger.manager = it.works.at_file.number in
-    let acts : Acts t (point m.ledger.manager now G) d (Ok done) p u v =
-    subst (λ (k : ℕ). Acts t (point k now G) d (Ok done) p u v) number did.2 in
+    let acts : Acts t (point m.ledger.manager m.ledger.saved now G) d (Ok done) p u v =
+    subst (λ (k : ℕ). Acts t (point k m.ledger.saved now G) d (Ok done) p u v) number
+    (subst (λ (k : ℕ). Acts t (point n.ledger.manager k now G) d (Ok done) p u v) it.saved did.2) in
     let order = its_turn m.ledger.manager now after H it.deeds o (subst (λ (k : ℕ). IsLegal k G) number upon.keeps.kept.legal) which.0
     it.order in
     let few = few_deeds now H it.deeds (o ∷ above o (active G)) order in
@@ -148,6 +152,7 @@ one_act_more t m n p now after o turn counted done w u v so_far leads joins next
     record {
       deeds = d ∷ it.deeds;
       works = joins m.ledger.manager H G (went (once_done now G d)) n p it.works acts.records.works;
+      saved = acts.records.saved;
       deeds_do = (around u, it.deeds_do, was_done m.ledger.manager G d done acts.tried, acts.exchanged);
       order =
           ap (λ (ns : List ℕ). numbers_of (d ∷ it.deeds) ++ ns)
@@ -163,7 +168,7 @@ pub went_through : (t : ReachTells) (m n : Managed) (now after : ℕ) (turn : Tu
     → WorksWithJobsLeadOn t.site w.site v.site
     → ((G : List Event) → IsReady t.site n G v.site → find (λ k. nat_lt after k) (active G) ≡ None)
     → (H : List Event) → IsReady t.site m H w.site
-    → (deeds : List Deed) × (end : TurnEnd) × Turns t (point m.ledger.manager now H) deeds end n w v
+    → (deeds : List Deed) × (end : TurnEnd) × Turns t (point m.ledger.manager m.ledger.saved now H) deeds end n w v
     × EndsTurn (Ok turn) (endings now H deeds) end
 went_through t m n now after turn w v so_far leads none H ready =
     let it = so_far H ready in
@@ -173,6 +178,7 @@ went_through t m n now after turn w v so_far leads none H ready =
       through,
       record {
         works = it.works;
+        saved = it.saved;
         between = around v;
         deeds_do = it.deeds_do;
         end_does = refl;
@@ -189,9 +195,10 @@ pub was_stopped : (t : ReachTells) (m n p : Managed) (now after o : ℕ) (turn :
     → TurnSoFar t m n now after turn w u
     → WorksWithJobsLeadOn t.site w.site u.site → WorksWithJobsJoin t.site w.site u.site v.site
     → ((G : List Event) → IsReady t.site n G u.site → find (λ k. nat_lt after k) (active G) ≡ Some o)
-    → ((G : List Event) → IsReady t.site n G u.site → (d : Deed) × (d.occ ≡ o) × Acts t (point n.ledger.manager now G) d (Err why) p u v)
+    → ((G : List Event) → IsReady t.site n G u.site → (d : Deed) × (d.occ ≡ o) × Acts t (point n.ledger.manager n.ledger.saved now G) d
+    (Err why) p u v)
     → (H : List Event) → IsReady t.site m H w.site
-    → (deeds : List Deed) × (end : TurnEnd) × Turns t (point m.ledger.manager now H) deeds end p w v
+    → (deeds : List Deed) × (end : TurnEnd) × Turns t (point m.ledger.manager m.ledger.saved now H) deeds end p w v
     × EndsTurn (Err why) (endings now H deeds) end
 was_stopped t m n p now after o turn why w u v so_far leads joins next act H ready =
     let it = so_far H ready in
@@ -200,14 +207,16 @@ was_stopped t m n p now after o turn why w u v so_far leads joins next act H rea
     let did = act G upon in
     let d : Deed = did.0 in
     let number : n.ledger.manager ≡ m.ledger.manager = it.works.at_file.number in
-    let acts : Acts t (point m.ledger.manager now G) d (Err why) p u v =
-    subst (λ (k : ℕ). Acts t (point k now G) d (Err why) p u v) number did.2 in
+    let acts : Acts t (point m.ledger.manager m.ledger.saved now G) d (Err why) p u v =
+    subst (λ (k : ℕ). Acts t (point k m.ledger.saved now G) d (Err why) p u v) number
+    (subst (λ (k : ℕ). Acts t (point n.ledger.manager k now G) d (Err why) p u v) it.saved did.2) in
     let order = its_turn m.ledger.manager now after H it.deeds o (subst (λ (k : ℕ). IsLegal k G) number upon.keeps.kept.legal)
     (next G upon) it.order in (
       it.deeds,
       stopped d why,
       record {
         works = joins m.ledger.manager H G (recording now (kinds_of G d) G (Err why)) n p it.works acts.records.works;
+        saved = acts.records.saved;
         between = around u;
         deeds_do = it.deeds_do;
         end_does = (acts.tried, acts.exchanged, acts.records.room);

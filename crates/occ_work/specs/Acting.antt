@@ -30,19 +30,22 @@ as_recorded (Ok done) = Ok tt
 as_recorded (Err why) = Err why
 
 -- What the answer tells of the room for the latest of the events of these kinds behind history H and the earlier ones,
--- in a journal that may fill its file. An act whose answer appends nothing ends in no fault but want of memory.
-abbrev pub TellsRoomFor : ℕ → List EventKind → List Event → Result Acted WorkFault → Type 0
-TellsRoomFor now kinds H (Err fault.Memory) = Unit {0}
-TellsRoomFor now [] H (Ok done) = Unit {0}
-TellsRoomFor now [] H (Err other) = ⊥
-TellsRoomFor now (kind ∷ earlier) H result =
-    TellsRoom MAX_FILE (with_events now earlier H) (record { moment = now; kind = kind }) (as_recorded result)
+-- in a journal that saves so many bytes and may fill its file. An act whose answer appends nothing ends in no fault but
+-- want of memory.
+abbrev pub TellsRoomFor : ℕ → ℕ → List EventKind → List Event → Result Acted WorkFault → Type 0
+TellsRoomFor saved now kinds H (Err fault.Memory) = Unit {0}
+TellsRoomFor saved now [] H (Ok done) = Unit {0}
+TellsRoomFor saved now [] H (Err other) = ⊥
+TellsRoomFor saved now (kind ∷ earlier) H result =
+    TellsRoom MAX_FILE saved (with_events now earlier H) (record { moment = now; kind = kind }) (as_recorded result)
 
--- Events of these kinds were to be recorded at this point of a manager, which is now n, and that ended so.
+-- Events of these kinds were to be recorded at this point of a manager, which is now n, and that ended so. Its journal
+-- saves as much as before.
 pub record Records (tells : Type 0) (p : Point) (kinds : List EventKind) (result : Result Acted WorkFault) (n : Managed)
     (a b : SiteState) : Type 0 where
   pub works : WorksWithJobs tells p.manager p.history (recording p.moment kinds p.history result) n a b
-  pub room : TellsRoomFor p.moment kinds p.history result
+  pub saved : n.ledger.saved ≡ p.saved
+  pub room : TellsRoomFor p.saved p.moment kinds p.history result
 
 -- The deed was tried at this point of a manager, which is now n: its exchange was made and no other, what that appends
 -- was recorded, and the answer says so.

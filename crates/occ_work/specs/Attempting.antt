@@ -74,8 +74,9 @@ is_of_attempt (Settled t outcome) = true
 is_of_attempt _ = false
 
 -- Events of these kinds, one or none, were to be put at this point of a manager, which is now n, without memory, and
--- that ended so.
+-- that ended so. Its journal saves as much as before.
 pub record Puts (tells : Type 0) (p : Point) (kinds : List EventKind) (result : Result Acted WorkFault) (n : Managed)
     (a b : SiteState) : Type 0 where
   pub at_file : WorksAtFile tells p.manager p.history (recording p.moment kinds p.history result) n a b
-  pub room : TellsRoomFor p.moment kinds p.history result
+  pub saved : n.ledger.saved ≡ p.saved
+  pub room : TellsRoomFor p.saved p.moment kinds p.history result

@@ -33,14 +33,16 @@ use Rattle.occ_work.specs.Requests.{grant_request}
 use Rattle.occ_work.specs.declared.ends.Acted.{Acted}
 use Rattle.occ_work.specs.declared.ends.Acted.TheVariants.{Recorded, Unreached, Waiting}
 
--- where work is taken up: the manager's number, the moment, and the history, the latest event first
+-- where work is taken up: the manager's number, how many bytes its journal saves, the moment, and the history, the
+-- latest event first
 pub record Point : Type 0 where
   pub manager : ℕ
+  pub saved : ℕ
   pub moment : ℕ
   pub history : List Event
 
-abbrev pub point : ℕ → ℕ → List Event → Point
-point m now H = record { manager = m; moment = now; history = H }
+abbrev pub point : ℕ → ℕ → ℕ → List Event → Point
+point m saved now H = record { manager = m; saved = saved; moment = now; history = H }
 
 -- What was exchanged: nothing; with the orchestrator, a grant request with this body, or a poll of this location, how
 -- the call ended and what was heard; with the infrastructure, the begin of an attempt's job with this work, a look at

@@ -49,10 +49,10 @@ abbrev pub turn_work : ℕ → List Event → List Deed → TurnEnd → Work
 turn_work now H deeds end = end_work now (once_all_done now H deeds) end
 
 -- what the end of a turn does with the orchestrator and the infrastructure, and tells of the room in the journal
-abbrev pub EndDoes : ReachTells → ℕ → ℕ → List Event → TurnEnd → Around → Around → Type 0
-EndDoes t m now H through a b = b ≡ a
-EndDoes t m now H (stopped d why) a b = IsTried m H d (Err why) × Exchanged t d.exchange a b
-    × TellsRoomFor now (kinds_of H d) H (Err why)
+abbrev pub EndDoes : ReachTells → ℕ → ℕ → ℕ → List Event → TurnEnd → Around → Around → Type 0
+EndDoes t m saved now H through a b = b ≡ a
+EndDoes t m saved now H (stopped d why) a b = IsTried m H d (Err why) × Exchanged t d.exchange a b
+    × TellsRoomFor saved now (kinds_of H d) H (Err why)
 
 -- these are the numbers of occurrences for which acts were made, the least first
 abbrev pub numbers_tried : List Deed → TurnEnd → List ℕ
@@ -71,11 +71,13 @@ EndsTurn (Err why) ends (stopped d cause) = why ≡ cause
 EndsTurn _ ends _ = ⊥
 
 -- These deeds were done from this point of a manager on, which is now n, the latest first, and the turn ended so: for
--- the occurrences that are active there, in order, each behind what those before it left.
+-- the occurrences that are active there, in order, each behind what those before it left. Its journal saves as much as
+-- before.
 pub record Turns (t : ReachTells) (p : Point) (deeds : List Deed) (end : TurnEnd) (n : Managed)
     (w v : Reach) : Type 0 where
   pub works : WorksWithJobs t.site p.manager p.history (turn_work p.moment p.history deeds end) n w.site v.site
+  pub saved : n.ledger.saved ≡ p.saved
   pub between : Around
   pub deeds_do : DeedsDo t p.manager p.moment p.history deeds (around w) between
-  pub end_does : EndDoes t p.manager p.moment (once_all_done p.moment p.history deeds) end between (around v)
+  pub end_does : EndDoes t p.manager p.saved p.moment (once_all_done p.moment p.history deeds) end between (around v)
   pub order : IsFor (active p.history) deeds end

@@ -47,7 +47,7 @@ pub fn act<S: Site, O: Orchestrator>(
     requires ready { (H : List Event) × IsReady S.tells manager.old H (S.state site.old) × IsActive H occ }
     ensures acts { (H : List Event) → IsReady S.tells manager.old H (S.state site.old) → IsActive H occ
         → (d : Deed) × (d.occ ≡ occ) × Acts (telling S.tells O.tells)
-        (point manager.old.ledger.manager now H) d result manager.new
+        (point manager.old.ledger.manager manager.old.ledger.saved now H) d result manager.new
         (reach (S.state site.old) (S.counts site.old) (O.state orchestrator.old) (O.counts orchestrator.old))
         (reach (S.state site.new) (S.counts site.new) (O.state orchestrator.new) (O.counts orchestrator.new)) }
     ensures short { (n : ℕ) → result ≢ Err (WorkFault.TooLong n) }
@@ -79,7 +79,7 @@ fn exchange<S: Site, O: Orchestrator>(
     ensures acts { (H : List Event) → IsReady S.tells manager.old H (S.state site.old) → IsActive H occ
         → next_action H occ ≡ Some (exchanging asking)
         → (d : Deed) × (d.occ ≡ occ) × Acts (telling S.tells O.tells)
-        (point manager.old.ledger.manager now H) d result manager.new
+        (point manager.old.ledger.manager manager.old.ledger.saved now H) d result manager.new
         (reach (S.state site.old) (S.counts site.old) (O.state orchestrator.old) (O.counts orchestrator.old))
         (reach (S.state site.new) (S.counts site.new) (O.state orchestrator.new) (O.counts orchestrator.new)) }
     ensures short { (n : ℕ) → result ≢ Err (WorkFault.TooLong n) }

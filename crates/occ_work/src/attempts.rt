@@ -57,7 +57,7 @@ pub fn begin<S: Site>(
     ensures attempts { (H : List Event) → IsReady S.tells manager.old H (S.state site.old) → IsActive H tag.now.occ
         → next_action H tag.now.occ ≡ Some (actions.Begin tag.now)
         → (d : Deed) × (d.occ ≡ tag.now.occ) × Attempts S.tells
-        (point manager.old.ledger.manager now H) d result manager.new
+        (point manager.old.ledger.manager manager.old.ledger.saved now H) d result manager.new
         (shows (S.state site.old) (S.counts site.old)) (shows (S.state site.new) (S.counts site.new)) }
     ensures short { (n : ℕ) → result ≢ Err (WorkFault.TooLong n) }
     ensures disk { DiskFails (result ≡ Err WorkFault.Disk) (S.counts site.old) (S.counts site.new) }
@@ -90,7 +90,9 @@ fn intend<S: Site>(
         (record { moment = now; kind = events.Intent tag.now }) result) manager.new (S.state site.old)
         (S.state site.new) }
     ensures room { (H : List Event) → Keeps manager.old H → result ≢ Err WorkFault.Memory
-        → TellsRoom MAX_FILE H (record { moment = now; kind = events.Intent tag.now }) result }
+        → TellsRoom MAX_FILE manager.old.ledger.saved H (record { moment = now; kind = events.Intent tag.now })
+        result }
+    ensures saved { manager.new.ledger.saved ≡ manager.old.ledger.saved }
     ensures quiet { OnOk result (HasNoNotice manager.new) }
     ensures short { (n : ℕ) → result ≢ Err (WorkFault.TooLong n) }
     ensures disk { OnlyDiskFails (result ≡ Err WorkFault.Disk) (S.counts site.old) (S.counts site.new) }
@@ -114,8 +116,8 @@ fn follow<S: Site>(
     requires quiet { HasNoNotice manager.old }
     ensures puts { (H : List Event) → IsReady S.tells manager.old H (S.state site.old)
         → IsLegal manager.old.ledger.manager (with_events now (following tag.now answer) H)
-        → Puts S.tells (point manager.old.ledger.manager now H) (following tag.now answer) result manager.new
-        (S.state site.old) (S.state site.new) }
+        → Puts S.tells (point manager.old.ledger.manager manager.old.ledger.saved now H)
+        (following tag.now answer) result manager.new (S.state site.old) (S.state site.new) }
     ensures jobs { S.tells → KeepsJobs (S.state site.old) (S.state site.new) }
     ensures ended { IfOk result (λ done. done ≡ Acted.Recorded) }
     ensures taken { answer ≡ BeginAnswer.Begun → IsOk result }
@@ -151,8 +153,8 @@ fn put<S: Site>(manager: &mut Manager<S>, site: &mut S, event: &Event) -> Result
     requires room { HasRoom event.now manager.old.tables }
     ensures puts { (H : List Event) → IsReady S.tells manager.old H (S.state site.old)
         → IsAllowed manager.old.ledger.manager H event.now.kind
-        → Puts S.tells (point manager.old.ledger.manager event.now.moment H) (event.now.kind ∷ []) result manager.new
-        (S.state site.old) (S.state site.new) }
+        → Puts S.tells (point manager.old.ledger.manager manager.old.ledger.saved event.now.moment H)
+        (event.now.kind ∷ []) result manager.new (S.state site.old) (S.state site.new) }
     ensures jobs { S.tells → KeepsJobs (S.state site.old) (S.state site.new) }
     ensures ended { IfOk result (λ done. done ≡ Acted.Recorded) }
     ensures memory { result ≢ Err WorkFault.Memory }
@@ -191,7 +193,8 @@ pub fn look<S: Site>(
         × (next_action H occ ≡ Some (look_at aborts tag.now)) }
     ensures attempts { (H : List Event) → IsReady S.tells manager.old H (S.state site.old) → IsActive H occ
         → next_action H occ ≡ Some (look_at aborts tag.now)
-        → (d : Deed) × (d.occ ≡ occ) × Attempts S.tells (point manager.old.ledger.manager now H) d result manager.new
+        → (d : Deed) × (d.occ ≡ occ) × Attempts S.tells
+        (point manager.old.ledger.manager manager.old.ledger.saved now H) d result manager.new
         (shows (S.state site.old) (S.counts site.old)) (shows (S.state site.new) (S.counts site.new)) }
     ensures short { (n : ℕ) → result ≢ Err (WorkFault.TooLong n) }
     ensures disk { DiskFails (result ≡ Err WorkFault.Disk) (S.counts site.old) (S.counts site.new) }
@@ -250,7 +253,7 @@ fn settle<S: Site>(
     requires room { HasRoom (record { moment = now; kind = events.Settled tag.now (Outcome.Done []) })
         manager.old.tables }
     ensures puts { (H : List Event) → IsReady S.tells manager.old H (S.state site.old) → is_open H tag.now ≡ true
-        → Puts S.tells (point manager.old.ledger.manager now H)
+        → Puts S.tells (point manager.old.ledger.manager manager.old.ledger.saved now H)
         (looking tag.now (answer_looked answer)) result manager.new (S.state site.old) (S.state site.new) }
     ensures jobs { S.tells → KeepsJobs (S.state site.old) (S.state site.new) }
     ensures ended { IfOk result (λ done. done ≡ ending (actions.Look tag.now) (answer_looked answer)) }
@@ -280,8 +283,8 @@ fn end<S: Site>(
     requires room { HasRoom (record { moment = now; kind = events.Settled tag.now (Outcome.Done []) })
         manager.old.tables }
     ensures puts { (H : List Event) → IsReady S.tells manager.old H (S.state site.old) → is_open H tag.now ≡ true
-        → Puts S.tells (point manager.old.ledger.manager now H) (events.Settled tag.now outcome ∷ []) result manager.new
-        (S.state site.old) (S.state site.new) }
+        → Puts S.tells (point manager.old.ledger.manager manager.old.ledger.saved now H)
+        (events.Settled tag.now outcome ∷ []) result manager.new (S.state site.old) (S.state site.new) }
     ensures jobs { S.tells → KeepsJobs (S.state site.old) (S.state site.new) }
     ensures ended { IfOk result (λ done. done ≡ Acted.Recorded) }
     ensures memory { result ≢ Err WorkFault.Memory }

@@ -108,8 +108,8 @@ fn record<S: Site>(
     requires kind { is_of_act event.now.kind ≡ true }
     ensures records { (H : List Event) → IsReady S.tells manager.old H (S.state site.old)
         → MayRecord manager.old.ledger.manager H event.now
-        → Records S.tells (point manager.old.ledger.manager event.now.moment H) (event.now.kind ∷ []) result manager.new
-        (S.state site.old) (S.state site.new) }
+        → Records S.tells (point manager.old.ledger.manager manager.old.ledger.saved event.now.moment H)
+        (event.now.kind ∷ []) result manager.new (S.state site.old) (S.state site.new) }
     ensures ended { IfOk result (λ done. done ≡ Acted.Recorded) }
     ensures jobs { S.tells → KeepsJobs (S.state site.old) (S.state site.new) }
     ensures short { (n : ℕ) → result ≢ Err (WorkFault.TooLong n) }
@@ -140,7 +140,7 @@ pub fn take<S: Site>(
         × (next_action H occ ≡ Some (exchanging asking)) }
     ensures records { (H : List Event) → IsReady S.tells manager.old H (S.state site.old) → IsActive H occ
         → next_action H occ ≡ Some (exchanging asking)
-        → Records S.tells (point manager.old.ledger.manager now H)
+        → Records S.tells (point manager.old.ledger.manager manager.old.ledger.saved now H)
         (kinds_for asking occ (answer_heard asking (changes_of H occ) call heard.now)) result manager.new
         (S.state site.old) (S.state site.new) }
     ensures ended { (H : List Event) → IsReady S.tells manager.old H (S.state site.old) → IsActive H occ
@@ -180,8 +180,8 @@ pub fn move_to<S: Site>(
         × (next_action H occ ≡ Some (actions.MoveTo to)) }
     ensures records { (H : List Event) → IsReady S.tells manager.old H (S.state site.old) → IsActive H occ
         → next_action H occ ≡ Some (actions.MoveTo to)
-        → Records S.tells (point manager.old.ledger.manager now H) (events.Moved occ to ∷ []) result manager.new
-        (S.state site.old) (S.state site.new) }
+        → Records S.tells (point manager.old.ledger.manager manager.old.ledger.saved now H)
+        (events.Moved occ to ∷ []) result manager.new (S.state site.old) (S.state site.new) }
     ensures ended { IfOk result (λ done. done ≡ Acted.Recorded) }
     ensures jobs { S.tells → KeepsJobs (S.state site.old) (S.state site.new) }
     ensures short { (n : ℕ) → result ≢ Err (WorkFault.TooLong n) }

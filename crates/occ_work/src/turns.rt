@@ -32,7 +32,8 @@ pub fn turn<S: Site, O: Orchestrator>(
     requires ready { (H : List Event) × IsReady S.tells manager.old H (S.state site.old) }
     ensures turns { (H : List Event) → IsReady S.tells manager.old H (S.state site.old)
         → (deeds : List Deed) × (end : TurnEnd)
-        × Turns (telling S.tells O.tells) (point manager.old.ledger.manager now H) deeds end manager.new
+        × Turns (telling S.tells O.tells) (point manager.old.ledger.manager manager.old.ledger.saved now H) deeds end
+        manager.new
         (reach (S.state site.old) (S.counts site.old) (O.state orchestrator.old) (O.counts orchestrator.old))
         (reach (S.state site.new) (S.counts site.new) (O.state orchestrator.new) (O.counts orchestrator.new))
         × EndsTurn result (endings now H deeds) end }

@@ -2,7 +2,7 @@
 use Rattle.std.proofs.Common.{◌∙◌, refl, rules}
 use Rattle.site_traits.specs.Moments.{reads-refl, reads-then}
 use Rattle.executor.proofs.FaultLemmas.{err_is, next_failed}
-use Rattle.executor.proofs.JudgeLemmas.{judges_starved, none_judged, small_so_far, step_on, through}
+use Rattle.executor.proofs.JudgeLemmas.{finds_why, judges_starved, none_judged, small_so_far, step_on, through}
 use Rattle.executor.proofs.open.judge_all.Goals as goal
 
 pub loop-judged-init : goal.loop-judged-init
@@ -46,7 +46,8 @@ returns-in_err-next-clause-told g c = λ tells.
     let so_far = c.loop-judged.invariant.judged.so_far tells in
     let loads = so_far.loads in
     record {
-      finds = search rules;
+      finds = finds_why so_far.rs _ _ _ _ _ _ (err_is _ _ c.from_residual.ensures.1) loads (c.next.ensures.told tells) c.in_err-next.ensures.grown
+          (c.in_err-next.ensures.found tells so_far.rs loads);
       reads = reads-then _ _ _ (c.loop-judged.invariant.reads tells) (c.next.ensures.told tells);
     }
 

@@ -1,4 +1,4 @@
-use Rattle.std.proofs.Common.{◌≡◌, ◌<◌, ◌-◌}
+use Rattle.std.proofs.Common.{◌≡◌, ◌<◌, ◌+◌, ◌-◌}
 use Rattle.site_traits.specs.Site.{Reads}
 use Rattle.journal_records.specs.declared.limits.TheConstants.{MAX_FILE}
 use Rattle.executor.specs.Loading.{IsUnderWay}
@@ -11,10 +11,10 @@ invariant-loop-judged g l =
     record {
       judged : IsUnderWay g.S.Site.tells l.judged l.loading (g.S.Site.state l.site);
       manager : l.loading.manager ≡ l.fn.loading.manager;
-      within : l.loading.end < MAX_FILE;
+      within : l.loading.total < MAX_FILE + MAX_FILE;
       counts : g.S.Site.counts l.site ≡ g.S.Site.counts l.fn.site;
       reads : g.S.Site.tells → Reads start (g.S.Site.state l.site);
     }
 
 abbrev pub decreases-loop-judged : goal.decreases-loop-judged
-decreases-loop-judged g l = MAX_FILE - l.loading.end
+decreases-loop-judged g l = MAX_FILE + MAX_FILE - l.loading.total

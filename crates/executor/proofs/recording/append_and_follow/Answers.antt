@@ -25,10 +25,12 @@ returns-clause-works g c = λ H ready may.
     let m : Managed = managed c.args.journal.now c.args.tables.now in
     let n : Managed = managed c.append.new.self c.apply.new.self in
     let room = c.requires.spelled.room in
-    let small = small_end c.records_add_up.ensures.longer H (rw (← ready.keeps.kept.end ready.usable) (omega (arith, room))) in
+    let small = small_end c.records_add_up.ensures.longer H (rw (← ready.keeps.kept.end ready.usable)
+    (omega (arith, room, c.saved-saved.ensures.small))) in
     let keeps = keeps_more c.records_add_up.ensures.adds m n c.args.tables.now H c.args.e.now ready.keeps ready.usable
     c.in_ok-append.ensures.manager c.in_ok-append.ensures.grown.0
-    (rw bytes at c.in_ok-append.ensures.grown.1) c.requires.event may.allowed (λ k K tables. tables) c.apply.ensures.applies small in
+    (rw bytes at c.in_ok-append.ensures.grown.1) c.in_ok-append.ensures.saved c.requires.event may.allowed
+    (λ k K tables. tables) c.apply.ensures.applies small in
     committed _ m n H c.args.e.now _ _ ready keeps c.in_ok-append.ensures.manager c.in_ok-append.ensures.grown.2 c.requires.event
     (λ tells. rw bytes at (c.in_ok-append.ensures.told tells))
 
@@ -39,10 +41,12 @@ returns-clause-keeps_one g c =
     let H = c.requires.may.0 in
     let ready = c.requires.may.1 in
     let room = c.requires.spelled.room in
-    let small = small_end c.records_add_up.ensures.longer H (rw (← ready.keeps.kept.end ready.usable) (omega (arith, room))) in (
+    let small = small_end c.records_add_up.ensures.longer H (rw (← ready.keeps.kept.end ready.usable)
+    (omega (arith, room, c.saved-saved.ensures.small))) in (
       c.args.e.now ∷ H,
       keeps_more c.records_add_up.ensures.adds m n c.args.tables.now H c.args.e.now ready.keeps ready.usable c.in_ok-append.ensures.manager
           c.in_ok-append.ensures.grown.0
-          (rw c.requires.spelled.is at c.in_ok-append.ensures.grown.1) c.requires.event c.requires.may.2.allowed
+          (rw c.requires.spelled.is at c.in_ok-append.ensures.grown.1) c.in_ok-append.ensures.saved c.requires.event
+          c.requires.may.2.allowed
           (λ k K tables. tables) c.apply.ensures.applies small,
     )

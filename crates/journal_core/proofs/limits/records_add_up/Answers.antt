@@ -7,8 +7,8 @@ pub returns-clause-adds : goal.returns-clause-adds
 returns-clause-adds c = λ rs bytes old new is adds. let more = size_push rs bytes in omega (arith, is, adds, more)
 
 pub returns-clause-room : goal.returns-clause-room
-returns-clause-room c = λ rs bytes limit. let more = size_push rs bytes in
-    ((λ room. omega (arith, room, more)), (λ before. omega (arith, before, more)))
+returns-clause-room c = λ rs bytes end saved limit is. let more = size_push rs bytes in
+    ((λ room. omega (arith, is, room, more)), (λ before. omega (arith, is, before, more)))
 
 pub returns-clause-longer : goal.returns-clause-longer
 returns-clause-longer c = λ rs bytes. let more = size_push rs bytes in omega (arith, more)

@@ -89,10 +89,11 @@ unfolding refusal
 refusal_ends status detail last = refl
 
 -- so it is whether there is room for the event or not
-room_ends : (H : List Event) (last : Bool) (planned : Planned) → EndsAs last planned → (in_room H last planned).reply.last ≡ last
-room_ends H last (Told reply) is = is
-room_ends H last (Records event reply) is =
-    elim (is_full MAX_REQUESTED (event ∷ H)) as (λ full. (recorded full event reply last).reply.last ≡ last) [
+room_ends : (full : List Event → Bool) (H : List Event) (last : Bool) (planned : Planned) → EndsAs last planned
+    → (in_room full H last planned).reply.last ≡ last
+room_ends full H last (Told reply) is = is
+room_ends full H last (Records event reply) is =
+    elim (full (event ∷ H)) as (λ none. (recorded none event reply last).reply.last ≡ last) [
       | true ↦ refusal_ends 507 (codes "journal full") last
       | false ↦ is
     ]
@@ -350,4 +351,5 @@ routed_ends (NotAllowed x) m H now role r = not_allowed_ends x r.last
 routed_ends (Served route) m H now role r = served_ends route m H now role r
 
 pub returns : goal.returns
-returns c m H now role r = room_ends H r.last (routed (routing r) m H now role r) (routed_ends (routing r) m H now role r)
+returns c m saved H now role r = room_ends (is_full MAX_REQUESTED saved) H r.last (routed (routing r) m H now role r) (routed_ends
+    (routing r) m H now role r)

@@ -18,6 +18,8 @@ use Rattle.lcm_api.specs.Planning.{in_room, refused, told}
 use Rattle.lcm_api.specs.Subscriptions.{list_subscriptions, named_subscription, show_subscribed, show_subscription}
 use Rattle.lcm_api.specs.declared.record.Planned.{Planned}
 use Rattle.lcm_api.specs.declared.record.Planned.TheVariants.{Records, Told}
+use Rattle.lcm_api.specs.declared.record.TheConstants.{MAX_REQUESTED}
+use Rattle.executor.specs.Room.{is_full}
 use Rattle.lcm_api.proofs.SubscriptionLemmas.{made_value, text_told}
 use Rattle.lcm_api.proofs.laws.roles_see_their_own.Goals as goal
 
@@ -26,9 +28,10 @@ abbrev OnlyTells : Planned → Type 0
 OnlyTells (Told reply) = Unit {0}
 OnlyTells (Records event reply) = ⊥
 
-same_room : (H K : List Event) (last : Bool) (p q : Planned) → OnlyTells p → p ≡ q → in_room H last p ≡ in_room K last q
-same_room H K last (Told reply) q only is = ap (in_room K last) is
-same_room H K last (Records event reply) q only is = absurd only
+same_room : (f g : List Event → Bool) (H K : List Event) (last : Bool) (p q : Planned) → OnlyTells p → p ≡ q
+    → in_room f H last p ≡ in_room g K last q
+same_room f g H K last (Told reply) q only is = ap (in_room g K last) is
+same_room f g H K last (Records event reply) q only is = absurd only
 
 list_tells : (m : ℕ) (H : List Event) (role : Role) (r : Request) → OnlyTells (list_subscriptions m H role r)
 list_tells m H role r =
@@ -58,9 +61,11 @@ same_shown m H K role r same =
     ap (λ (xs : List Subscription). show_subscribed m r.last (find (λ x. bytes_eq (subscription_id m x.number) (asked_id r)) xs)) same
 
 pub returns : goal.returns
-returns c m H K now later role r (inl is) same = rw is
-    (same_room H K r.last (list_subscriptions m H role r) (list_subscriptions m K role r) (list_tells m H role r)
+returns c m saved other H K now later role r (inl is) same = rw is
+    (same_room (is_full MAX_REQUESTED saved) (is_full MAX_REQUESTED other) H K r.last (list_subscriptions m H role r)
+    (list_subscriptions m K role r) (list_tells m H role r)
     (same_list m H K role r same))
-returns c m H K now later role r (inr is) same = rw is
-    (same_room H K r.last (show_subscription m H role r) (show_subscription m K role r)
+returns c m saved other H K now later role r (inr is) same = rw is
+    (same_room (is_full MAX_REQUESTED saved) (is_full MAX_REQUESTED other) H K r.last (show_subscription m H role r)
+    (show_subscription m K role r)
     (show_tells m r.last (named_subscription m H role (asked_id r))) (same_shown m H K role r same))

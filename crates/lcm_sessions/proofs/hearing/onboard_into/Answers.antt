@@ -7,9 +7,10 @@ use Rattle.lcm_sessions.proofs.hearing.onboard_into.Goals as goal
 
 pub returns-clause-onboards : goal.returns-clause-onboards
 returns-clause-onboards g c = λ H ready.
-    onboards_heard _ _ H c.take_in-answer.new.manager c.in_ok-count.count c.of-now.result c.now.result c.hear.new.room c.take_in-answer.result _ _
+    onboards_heard _ _ _ H c.take_in-answer.new.manager c.in_ok-count.count c.of-now.result c.now.result c.hear.new.room
+    c.take_in-answer.result _ _
     (hears_noted _ _ _ _ _ _ c.in_ok-count.ensures.heard c.blame.ensures.noted) (c.take_in-answer.ensures.answer H ready.keeps)
-    (c.take_in-answer.ensures.works H ready) c.now.ensures.told c.of-now.ensures
+    (c.take_in-answer.ensures.works H ready) c.take_in-answer.ensures.saved c.now.ensures.told c.of-now.ensures
     (ap (λ (d : MouthState). d.told) c.blame.ensures.noted ∙ c.hear.ensures.unnoted)
 
 pub returns-in_err-count-clause-onboards : goal.returns-in_err-count-clause-onboards

@@ -19,7 +19,7 @@ returns-in-Ok-true-clause-talks g c = λ H ready.
     let did = c.respond.ensures.responds H ready heard.0 heard.1 in
     let P : Role → Type 0 = λ role. IsStep role did.0 c.respond.result in (
       did.0,
-      talk_of_request _ _ H did.0 heard.0 _ _ c.args.mouth.now c.hear.new.self _ _ heard.2.is c.in-Ok-true.ensures.reads
+      talk_of_request _ _ _ H did.0 heard.0 _ _ c.args.mouth.now c.hear.new.self _ _ heard.2.is c.in-Ok-true.ensures.reads
           c.in-Ok-true.ensures.counts c.hear.ensures.unnoted did.1 did.2,
       subst P c.hear.ensures.role did.3,
     )

@@ -8,6 +8,7 @@ returns-clause-serves g c = λ H ready.
       it.0,
       record {
         works = it.3.works;
+        saves = it.3.saves;
         attends = record {
           between = c.talk-answer.new.mouth;
           end = it.1;

@@ -11,6 +11,7 @@ use Rattle.lcm_events.specs.declared.events.PostOutcome.{PostOutcome}
 use Rattle.lcm_tables.specs.Tables.{HasRoom}
 use Rattle.notice_table.specs.Queues.{first_waiting}
 use Rattle.notify_outbox.specs.Dispatches.{posted_event}
+use Rattle.notify_outbox.specs.Preparing.{TellsRoomBefore}
 use Rattle.notify_outbox.proofs.DeliverLemmas.{held_unprepared, held_unread, may_record, ready_reserved, sent_broken, sent_well}
 use Rattle.notify_outbox.proofs.DeliverLemmas.{works_reserved}
 use Rattle.notify_outbox.proofs.NoticeLemmas.{waits_next}
@@ -21,7 +22,7 @@ returns-in_err-body-clause-delivers g c = λ H ready waits.
     let err = err_from_is_err_and c.from_residual.result c.from_residual.ensures.1 in
     rw (err.1 ∙ ap Err err.2)
     (held_unread _ c.args.manager.now _ _ H c.args.subscription c.args.place c.in_err-body.field-0.0 _ _ waits
-    (c.in_err-body.ensures.reads H ready waits) refl)
+    (c.in_err-body.ensures.reads H ready waits) refl c.read_body.ensures.saved)
 
 pub returns-in_err-prepare-clause-delivers : goal.returns-in_err-prepare-clause-delivers
 returns-in_err-prepare-clause-delivers g c = λ H ready waits.
@@ -30,9 +31,11 @@ returns-in_err-prepare-clause-delivers g c = λ H ready waits.
     let upon = c.works_add_up.ensures.leads c.args.site.now c.read_body.new.site _ H (went H) _ read.0 refl in
     let still = subst (λ (k : ℕ). first_waiting k H c.args.subscription ≡ Some c.args.place) (sym read.0.number) waits in
     rw (err.1 ∙ ap Err err.2, c.prepare.ensures.site)
-    (held_unprepared _ _ _ _ H _ _ c.in_err-prepare.field-0.0 _ _ waits
+    (held_unprepared _ _ _ _ _ H _ _ c.in_err-prepare.field-0.0 _ _ waits
     (works_reserved _ _ _ _ H _ _ read.0 c.prepare.ensures.ledger c.prepare.ensures.keeps) refl
-    (c.in_err-prepare.ensures.room H upon still))
+    (ap (λ (l : Ledger). l.saved) c.prepare.ensures.ledger ∙ c.read_body.ensures.saved)
+    (subst (λ (z : ℕ). TellsRoomBefore z c.args.now H c.args.subscription c.args.place (Err c.in_err-prepare.field-0.0))
+    c.read_body.ensures.saved (c.in_err-prepare.ensures.room H upon still)))
 
 pub record-requires-clause-may : goal.record-requires-clause-may
 record-requires-clause-may g c =
@@ -46,8 +49,9 @@ record-requires-clause-may g c =
       rw c.prepare.ensures.site (ready_reserved _ _ _ it.0 _ upon c.prepare.ensures.ledger c.prepare.ensures.keeps),
       subst (λ (e : Event). MayRecord c.prepare.new.manager.ledger.manager it.0 e) (sym c.posted-event.ensures)
           (may_record _ _ it.0 _ _ c.outcome_of-outcome.result here),
-      subst (λ (e : Event). HasRoomFor MAX_FILE it.0 e) (sym c.posted-event.ensures)
-          (c.in_ok-prepare.ensures.room it.0 upon still c.outcome_of-outcome.result),
+      subst (λ (l : Ledger). HasRoomFor MAX_FILE l.saved it.0 c.posted-event.result) (sym c.prepare.ensures.ledger)
+          (subst (λ (e : Event). HasRoomFor MAX_FILE c.read_body.new.manager.ledger.saved it.0 e) (sym c.posted-event.ensures)
+          (c.in_ok-prepare.ensures.room it.0 upon still c.outcome_of-outcome.result)),
     )
 
 pub record-requires-clause-reserved : goal.record-requires-clause-reserved
@@ -72,13 +76,15 @@ returns-in_err-record-clause-delivers g c = λ H ready waits.
     c.outcome_of-outcome.ensures in
     let may = subst (λ (e : Event). MayRecord c.prepare.new.manager.ledger.manager H e) (sym c.posted-event.ensures)
     (may_record _ _ H _ _ c.outcome_of-outcome.result here) in
-    let room = subst (λ (e : Event). HasRoomFor MAX_FILE H e) (sym c.posted-event.ensures)
-    (c.in_ok-prepare.ensures.room H upon still c.outcome_of-outcome.result) in
+    let room = subst (λ (z : ℕ). HasRoomFor MAX_FILE z H c.posted-event.result) c.read_body.ensures.saved
+    (subst (λ (e : Event). HasRoomFor MAX_FILE c.read_body.new.manager.ledger.saved H e) (sym c.posted-event.ensures)
+    (c.in_ok-prepare.ensures.room H upon still c.outcome_of-outcome.result)) in
+    let saved = c.record.ensures.saved ∙ (ap (λ (l : Ledger). l.saved) c.prepare.ensures.ledger ∙ c.read_body.ensures.saved) in
     rw (err.1 ∙ ap Err err.2)
-    (sent_broken _ _ _ _ _ _ H _ _ c.post-answer.result c.in_ok-body.body c.posted-event.result c.in_err-record.field-0.0
+    (sent_broken _ _ _ _ _ _ _ H _ _ c.post-answer.result c.in_ok-body.body c.posted-event.result c.in_err-record.field-0.0
     (g.S.Site.state c.prepare.new.site) _ _ number (c.record.ensures.only c.in_err-record.field-0.0 c.in_err-record.was) waits same first
     (c.in_err-record.ensures.works H later may) (c.works_add_up.ensures.joins c.args.site.now c.prepare.new.site c.record.new.site)
-    read.1 (c.post-answer.ensures.posts H later.keeps (waits_next _ H _ _ waits).0) c.post-answer.ensures.cause room)
+    read.1 (c.post-answer.ensures.posts H later.keeps (waits_next _ H _ _ waits).0) c.post-answer.ensures.cause saved room)
 
 pub returns-clause-delivers : goal.returns-clause-delivers
 returns-clause-delivers g c = λ H ready waits.
@@ -96,10 +102,12 @@ returns-clause-delivers g c = λ H ready waits.
     c.outcome_of-outcome.ensures in
     let may = subst (λ (e : Event). MayRecord c.prepare.new.manager.ledger.manager H e) (sym c.posted-event.ensures)
     (may_record _ _ H _ _ c.outcome_of-outcome.result here) in
-    let room = subst (λ (e : Event). HasRoomFor MAX_FILE H e) (sym c.posted-event.ensures)
-    (c.in_ok-prepare.ensures.room H upon still c.outcome_of-outcome.result) in
+    let room = subst (λ (z : ℕ). HasRoomFor MAX_FILE z H c.posted-event.result) c.read_body.ensures.saved
+    (subst (λ (e : Event). HasRoomFor MAX_FILE c.read_body.new.manager.ledger.saved H e) (sym c.posted-event.ensures)
+    (c.in_ok-prepare.ensures.room H upon still c.outcome_of-outcome.result)) in
+    let saved = c.record.ensures.saved ∙ (ap (λ (l : Ledger). l.saved) c.prepare.ensures.ledger ∙ c.read_body.ensures.saved) in
     rw (c.delivery_of.ensures, c.outcome_of-outcome.ensures)
-    (sent_well _ _ _ _ _ _ H _ _ c.post-answer.result c.in_ok-body.body c.posted-event.result
+    (sent_well _ _ _ _ _ _ _ H _ _ c.post-answer.result c.in_ok-body.body c.posted-event.result
     (g.S.Site.state c.prepare.new.site) _ _ number waits same first
     (c.in_ok-record.ensures.works H later may) (c.works_add_up.ensures.joins c.args.site.now c.prepare.new.site c.record.new.site)
-    read.1 (c.post-answer.ensures.posts H later.keeps (waits_next _ H _ _ waits).0) c.post-answer.ensures.cause room)
+    read.1 (c.post-answer.ensures.posts H later.keeps (waits_next _ H _ _ waits).0) c.post-answer.ensures.cause saved room)

@@ -14,7 +14,7 @@ move_to-requires g c =
 pub returns-in-Move-clause-acts : goal.returns-in-Move-clause-acts
 returns-in-Move-clause-acts g c = λ H ready is.
     let next = c.next_step.ensures H ready.keeps is ∙ ap (λ (s : Step). Some (action_of s)) c.in-Move.is in
-    moving_act _ _ _ H _ _ _ _ _ _ _ _ _ _ _ next c.move_to.ensures.jobs c.move_to.ensures.disk
+    moving_act _ _ _ _ H _ _ _ _ _ _ _ _ _ _ _ next c.move_to.ensures.jobs c.move_to.ensures.disk
     (c.move_to.ensures.records H ready is next) c.move_to.ensures.ended
 
 pub returns-in-Move-clause-disk : goal.returns-in-Move-clause-disk
@@ -32,14 +32,14 @@ returns-in-Begin-clause-acts g c = λ H ready is.
     let next = c.next_step.ensures H ready.keeps is ∙ ap (λ (s : Step). Some (action_of s)) c.in-Begin.is in
     let there = begins_there H _ _ is next in
     let it = c.begin.ensures.attempts H ready there.0 there.1 in
-    attempting_act _ _ _ H _ _ _ _ _ _ _ _ _ (it.0, it.1 ∙ begins_own H _ _ is next, it.2)
+    attempting_act _ _ _ _ H _ _ _ _ _ _ _ _ _ (it.0, it.1 ∙ begins_own H _ _ is next, it.2)
 
 pub returns-in-Look-clause-acts : goal.returns-in-Look-clause-acts
 returns-in-Look-clause-acts g c = λ H ready is.
     let next = c.next_step.ensures H ready.keeps is ∙ ap (λ (s : Step). Some (action_of s)) c.in-Look.is in
-    attempting_act _ _ _ H _ _ _ _ _ _ _ _ _ (c.look.ensures.attempts H ready is next)
+    attempting_act _ _ _ _ H _ _ _ _ _ _ _ _ _ (c.look.ensures.attempts H ready is next)
 
 pub returns-in-AbortAndLook-clause-acts : goal.returns-in-AbortAndLook-clause-acts
 returns-in-AbortAndLook-clause-acts g c = λ H ready is.
     let next = c.next_step.ensures H ready.keeps is ∙ ap (λ (s : Step). Some (action_of s)) c.in-AbortAndLook.is in
-    attempting_act _ _ _ H _ _ _ _ _ _ _ _ _ (c.look-in-AbortAndLook.ensures.attempts H ready is next)
+    attempting_act _ _ _ _ H _ _ _ _ _ _ _ _ _ (c.look-in-AbortAndLook.ensures.attempts H ready is next)

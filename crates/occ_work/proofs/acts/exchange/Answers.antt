@@ -19,7 +19,7 @@ returns-in_err-ended-clause-acts g c = λ H ready is next.
 pub returns-clause-acts : goal.returns-clause-acts
 returns-clause-acts g c = λ H ready is next.
     let called = c.in_ok-ended.ensures.called H ready.keeps is next in
-    exchanging_act _ _ _ H _ c.args.asking called.0 _ _ _ _ _ _ _ _ _ _ _ _ _ next called.1 called.2
+    exchanging_act _ _ _ _ H _ c.args.asking called.0 _ _ _ _ _ _ _ _ _ _ _ _ _ next called.1 called.2
     c.take.ensures.jobs c.take.ensures.disk (c.take.ensures.records H ready is next) (c.take.ensures.ended H ready is)
 
 pub returns-clause-disk : goal.returns-clause-disk

@@ -1,5 +1,5 @@
 -- The intent is recorded, the job is begun, and what was answered is recorded.
-use Rattle.std.proofs.Common.{◌∙◌, ◌∷◌, Err, List, ap}
+use Rattle.std.proofs.Common.{◌∙◌, ◌∷◌, Err, List, ap, refl}
 use Rattle.std.proofs.lemmas.Result.{err_from_is_err_and}
 use Rattle.lcm_events.specs.declared.events.Event.{Event}
 use Rattle.lcm_events.specs.declared.events.EventKind.TheVariants.{Intent}
@@ -14,7 +14,7 @@ pub returns-in_err-work-clause-attempts : goal.returns-in_err-work-clause-attemp
 returns-in_err-work-clause-attempts g c = λ H ready is next.
     let err = err_from_is_err_and c.from_residual.result c.from_residual.ensures.1 in
     rw (err.1 ∙ ap Err err.2) (starved_attempt _ c.args.manager.now _ H _ _ c.args.manager.now _ _ next tt
-    (c.works_add_up.ensures.idles c.args.site.now _ H ready))
+    (c.works_add_up.ensures.idles c.args.site.now _ H ready) refl)
 
 pub intend-requires : goal.intend-requires
 intend-requires g c =
@@ -54,15 +54,16 @@ returns-in-Ok-clause-attempts g c = λ H ready is next.
     let all = begin_legal c.next_actions_are_allowed.ensures c.args.manager.now.ledger.manager c.args.now H _ c.begin-answer.result legal is
     next in
     let follows = legal_following _ c.args.now H _ c.begin-answer.result all in
-    begun_attempt _ _ _ H _ c.in_ok-work.work c.begin-answer.result _ _ _ _ _ _ _ _ _ _ _ _ _ next all allowed
+    begun_attempt _ _ _ _ H _ c.in_ok-work.work c.begin-answer.result _ _ _ _ _ _ _ _ _ _ _ _ _ next all allowed
     (c.in_ok-work.ensures H ready.keeps is next) works
     (c.in-Ok.ensures.room H ready.keeps (λ memory. cc)) c.begin-answer.ensures.told
-    (rw works.number at (c.follow.ensures.puts G behind (rw works.number follows))) c.follow.ensures.jobs
+    (rw (works.number, c.in-Ok.ensures.saved) at (c.follow.ensures.puts G behind (rw works.number follows))) c.follow.ensures.jobs
     c.follow.ensures.taken c.follow.ensures.memory c.follow.ensures.ended c.in-Ok.ensures.disk c.begin-answer.ensures.cause
     c.follow.ensures.disk
 
 pub returns-clause-attempts : goal.returns-clause-attempts
 returns-clause-attempts g c = λ H ready is next.
     let allowed = begin_allowed c.next_actions_are_allowed.ensures c.args.manager.now.ledger.manager H _ ready.keeps.kept.legal is next in
-    unbegun_attempt _ _ _ H _ c.in-Err.fault _ _ _ _ _ _ next (c.in-Err.ensures.works H ready allowed)
+    unbegun_attempt _ _ _ _ H _ c.in-Err.fault _ _ _ _ _ _ next (c.in-Err.ensures.works H ready allowed)
     (λ other. c.in-Err.ensures.room H ready.keeps (λ memory. other (fault_of _ _ memory))) c.in-Err.ensures.disk
+    c.in-Err.ensures.saved

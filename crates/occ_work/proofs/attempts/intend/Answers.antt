@@ -40,5 +40,5 @@ returns-clause-short g c = λ n is.
     let it = c.requires.may in
     let e = c.event_of-intent.result in
     let fits = attempts_fit e.moment e.kind c.put_unsettled.ensures.event (rw c.event_of-intent.ensures refl) in
-    never_long it.0 e c.put_unsettled.result n fits
+    never_long _ it.0 e c.put_unsettled.result n fits
     (c.put_unsettled.ensures.room it.0 (c.in_ok-reserve_for.ensures.keeps it.0 it.1.keeps)) is

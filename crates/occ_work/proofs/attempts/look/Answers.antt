@@ -13,7 +13,8 @@ returns-in_err-reserve_for-clause-attempts g c = λ H ready is next.
     let err = err_from_is_err_and c.from_residual.result c.from_residual.ensures.1 in
     rw (err.1 ∙ ap Err err.2)
     (starved_attempt _ c.args.manager.now _ H _ _ _ _ _ next (looks_starving c.args.aborts _)
-    (kept_idle _ _ _ H _ ready c.in_err-reserve_for.ensures.ledger c.in_err-reserve_for.ensures.keeps))
+    (kept_idle _ _ _ H _ ready c.in_err-reserve_for.ensures.ledger c.in_err-reserve_for.ensures.keeps)
+    (ap (λ (l : Ledger). l.saved) c.in_err-reserve_for.ensures.ledger))
 
 pub inquire-answer-requires-clause-usable : goal.inquire-answer-requires-clause-usable
 inquire-answer-requires-clause-usable g c =
@@ -43,7 +44,7 @@ returns-clause-attempts g c = λ H ready is next.
     let asks = c.inquire-answer.ensures.asks H kept.keeps is in
     let behind = ready_on _ Advances _ H _ _ kept asks.2.calls in
     let going = look_open c.next_actions_are_allowed.ensures c.args.aborts c.args.manager.now.ledger.manager H _ _ legal is next in
-    inquired_attempt _ _ _ H _ c.args.aborts asks.0 _ c.inquire-answer.result _ _ _ _ _ _ _ _ _ _ next asks.1
+    inquired_attempt _ _ _ _ H _ c.args.aborts asks.0 _ c.inquire-answer.result _ _ _ _ _ _ _ _ _ _ next asks.1
     (look_legal c.next_actions_are_allowed.ensures c.args.aborts _ c.args.now H _ _ c.inquire-answer.result legal is next)
     (ap (λ (l : Ledger). l.manager) same) kept asks.2
     (rw same at (c.settle.ensures.puts H behind going)) c.settle.ensures.jobs

@@ -11,19 +11,20 @@ pub returns-in-Ok-clause-puts : goal.returns-in-Ok-clause-puts
 returns-in-Ok-clause-puts g c = λ H ready allowed.
     record {
       at_file = c.in-Ok.ensures.works H ready (attempt_put _ H _ ready.keeps.kept.events allowed c.requires.kind);
-      room =
-          c.in-Ok.ensures.room H ready.keeps;
+      saved = c.in-Ok.ensures.saved;
+      room = c.in-Ok.ensures.room H ready.keeps;
     }
 
 pub returns-in-Err-clause-puts : goal.returns-in-Err-clause-puts
 returns-in-Err-clause-puts g c = λ H ready allowed. record {
   at_file = recorded_at_file _ _ H c.args.event.now c.in-Err.fault _ _ _
       (c.in-Err.ensures.works H ready (attempt_put _ H _ ready.keeps.kept.events allowed c.requires.kind));
-  room = one_room H c.args.event.now c.in-Err.fault (c.in-Err.ensures.room H ready.keeps);
+  saved = c.in-Err.ensures.saved;
+  room = one_room _ H c.args.event.now c.in-Err.fault (c.in-Err.ensures.room H ready.keeps);
 }
 
 pub returns-in-Err-clause-short : goal.returns-in-Err-clause-short
 returns-in-Err-clause-short g c = λ n is.
     let it = c.requires.may in
     let fits = attempts_fit c.args.event.now.moment c.args.event.now.kind c.in-Err.ensures.event c.requires.kind in
-    not_too_long it.0 c.args.event.now c.in-Err.fault n fits (c.in-Err.ensures.room it.0 it.1.keeps) (fault_of _ _ is)
+    not_too_long _ it.0 c.args.event.now c.in-Err.fault n fits (c.in-Err.ensures.room it.0 it.1.keeps) (fault_of _ _ is)

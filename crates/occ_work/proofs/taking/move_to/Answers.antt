@@ -19,4 +19,4 @@ record-requires g c =
 pub returns-clause-records : goal.returns-clause-records
 returns-clause-records g c = λ H ready is next.
     let may = may_move_event _ _ H _ _ _ c.next_actions_are_allowed.ensures ready.keeps.kept.legal is next c.event_of-event.ensures in
-    records_as _ _ _ _ H _ _ _ _ _ _ c.event_of-event.ensures refl (c.record.ensures.records H ready may)
+    records_as _ _ _ _ _ H _ _ _ _ _ _ c.event_of-event.ensures refl (c.record.ensures.records H ready may)

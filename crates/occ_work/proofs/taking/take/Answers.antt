@@ -28,7 +28,7 @@ returns-in-Some-clause-records g c = λ H ready is next.
     (c.row_of.ensures.row H ready.keeps is) c.as_slice-changes.ensures c.in_ok-appended.ensures.kinds ∙ ap listed c.in-Some.is in
     let may = may_take_event _ _ H _ c.args.asking c.args.call c.args.heard.now _ _ c.next_actions_are_allowed.ensures
     c.covering_rows_place_changes.ensures ready.keeps.kept.legal is next kinds c.event_of-event.ensures in
-    records_as _ _ _ _ H _ _ _ _ _ _ c.event_of-event.ensures kinds (c.record.ensures.records H ready may)
+    records_as _ _ _ _ _ H _ _ _ _ _ _ c.event_of-event.ensures kinds (c.record.ensures.records H ready may)
 
 pub returns-in-Some-clause-ended : goal.returns-in-Some-clause-ended
 returns-in-Some-clause-ended g c = λ H ready is.

@@ -37,3 +37,6 @@ returns-clause-keeps g c = λ H keeps.
 
 pub returns-clause-number : goal.returns-clause-number
 returns-clause-number g c = rw (← c.self.view_is) (c.in_ok-read_back.ensures.kept.manager)
+
+pub returns-clause-saved : goal.returns-clause-saved
+returns-clause-saved g c = rw (← c.self.view_is) (c.in_ok-read_back.ensures.kept.saved)

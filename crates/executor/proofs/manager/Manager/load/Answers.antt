@@ -28,4 +28,5 @@ returns-in_err-record-clause-opens g c =
     opens_err _ _ _ _ c.from_residual-in_err-record.ensures.1 (λ tells. header_found _ _ _ _ c.in_ok-judged.ensures.judged tells)
 
 pub returns-clause-opens : goal.returns-clause-opens
-returns-clause-opens g c = rw c.finish.ensures (opened _ _ _ _ c.in_ok-judged.ensures.judged (search rules))
+returns-clause-opens g c = rw c.finish.ensures.ledger (opened _ _ _ _ c.in_ok-judged.ensures.judged (search rules)
+    (rw c.finish.ensures.ledger at c.finish.ensures.adds))

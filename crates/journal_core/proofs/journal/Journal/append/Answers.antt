@@ -1,22 +1,25 @@
 use Rattle.std.proofs.Common.{◌≡◌, ◌∙◌, ap, ◌+◌, ◌≤◌, take, length, arith}
 use Rattle.std.proofs.lemmas.List.{take_at}
 use Rattle.std.proofs.Common.{[], ◌∷◌, ◌++◌}
-use Rattle.journal_records.specs.File.{piece, records, IsRecord}
+use Rattle.journal_records.specs.File.{piece, batches, IsRecord}
 use Rattle.journal_core.specs.Journal.{Ledger}
-use Rattle.std.proofs.Common.{sym, subst, Result, Err}
+use Rattle.std.proofs.Common.{sym, subst, refl, All, Result, Err}
 use Rattle.std.proofs.lemmas.Result.{err_from_is_err_and}
 use Rattle.journal_core.specs.declared.journal.AppendFault.{AppendFault}
 use Rattle.journal_core.specs.Asking.{through, AppendAsks}
 use Rattle.journal_core.proofs.AskLemmas.{stops_more, stops_after}
-use Rattle.journal_core.proofs.Records.{has_length, ready_has, records_of}
+use Rattle.journal_core.proofs.Records.{has_length, ready_has}
 use Rattle.site_traits.specs.Moments.{keeps_file, keeps_one, keeps_refl}
-use Rattle.journal_core.proofs.Appending.{marks_kept, first_moments, first_ready, second_moments, second_has, stands_more, appends_not}
+use Rattle.journal_core.specs.declared.marks.Mark.{Mark}
+use Rattle.journal_core.specs.Marks.{Kept, IsMark}
+use Rattle.journal_core.proofs.Appending.{marks_kept, first_moments, first_ready, second_moments, second_has, stands_more, appends_not, added_record, file_batches}
 use Rattle.journal_core.proofs.journal.Journal.append.Goals as goal
 
 pub write_through-requires : goal.write_through-requires
 write_through-requires g c = λ tells.
     let stands = c.requires.stands tells in
-    let long = has_length _ _ _ stands.file in
+    let j = c.args.self.now in
+    let long = has_length _ _ _ (file_batches j (g.S.Site.state c.args.site.now) stands) in
     let end : c.self.inside.end ≡ c.args.self.now.end = ap (λ (v : Ledger). v.end) c.self.view_is in
     omega (arith, stands.end)
 
@@ -76,18 +79,19 @@ returns-clause-told g c = λ tells.
     ap (take c.frame-total.result) (c.deref.ensures.value ∙ take_at c.frame-total.new.buffer _ _ (omega arith))
     ∙ c.frame-total.ensures.framed in
     let one : IsRecord c.args.bytes.now = record { some = c.requires.some; fits = c.requires.fits } in
-    let room : j.end + 6 + length c.args.bytes.now ≤ 268435456 = omega arith in
+    let room : j.end + 10 + length c.args.bytes.now ≤ 268435456 = omega arith in
     let ready = first_ready c.args.bytes.now _ _ j a b stands (ap (λ v. v + 1) end) whole first.holds in
     let has = second_has c.args.bytes.now _ j a b d stands ready one end room second.holds in
+    let mark : Mark = record { before = c.self.inside.count; place = c.self.inside.end } in
+    let all = marks_kept c.args.bytes.now j a c.self.inside.marks mark stands (ap (λ (v : Ledger). v.marks) c.self.view_is) count end in
+    let M : Kept → Type 0 = λ v. All (IsMark (batches a.image ++ (c.args.bytes.now ∷ []) ∷ [])) v.places in
     record {
       any_moment = second_moments c.args.bytes.now _ _ j a b d (first_moments c.args.bytes.now _ _ _ j a b stands
           (ap (λ v. v + 1) end) first)
           stands first.settled ready one end room second;
       stands = stands_more c.args.bytes.now j _ a d stands second.settled has manager (omega arith) (omega arith)
-          (marks_kept c.args.bytes.now j a c.self.inside.last c.self.inside.marks.places c.keep.new.self.places _ stands
-          (ap (λ (v : Ledger). v.marks) c.self.view_is) (count ∙ stands.count) (end ∙ stands.end)
-          (c.keep.ensures.marks (records a.image ++ c.args.bytes.now ∷ [])));
-      added = records_of _ _ _ has;
+          (ap (λ (v : Ledger). v.saved) c.self.view_is) (subst M (sym c.keep.ensures.kept) all) refl c.stand_at.ensures;
+      added = added_record c.args.bytes.now j a d has;
     }
 
 pub returns-in_err-write_through-clause-asks : goal.returns-in_err-write_through-clause-asks

@@ -1,7 +1,7 @@
 use Rattle.std.proofs.Common.{◌∙◌, ◌++◌, ◌∷◌, [], sym, subst, Result, Ok, Err}
 use Rattle.std.proofs.lemmas.Result.{err_from_is_err_and}
 use Rattle.journal_core.specs.declared.loading.Found.{Found}
-use Rattle.journal_core.specs.Journal.{Ledger}
+use Rattle.journal_core.specs.Journal.{Ledger, Stands}
 use Rattle.journal_core.specs.declared.loading.LoadFault.{LoadFault}
 use Rattle.journal_core.specs.Load.{Finds, Loaded}
 use Rattle.journal_core.proofs.LoadLemmas.{loading_keeps, syncs_then_reads, failed_load}
@@ -45,3 +45,12 @@ returns-in-End-clause-jobs g c = λ tells. loading_keeps _ _ (syncs_then_reads _
 
 pub returns-in_err-loading-clause-jobs : goal.returns-in_err-loading-clause-jobs
 returns-in_err-loading-clause-jobs g c = λ tells. loading_keeps _ _ (c.open.ensures.told tells)
+
+pub returns-in-End-clause-loaded : goal.returns-in-End-clause-loaded
+returns-in-End-clause-loaded g c = λ tells.
+    let before = c.loop-loading.invariant.loads tells in
+    let s = g.S.Site.state c.next.new.site in
+    let P : Found → Type 0 = λ v. Finds before.0 (Ok v) c.next.new.self s in
+    let all = subst P c.in-End.is (c.in_ok-next.ensures.found tells before.0 before.1) in
+    let Q : Ledger → Type 0 = λ v. Stands s v in
+    subst Q (sym c.finish.ensures.ledger) all.stands

@@ -13,4 +13,4 @@ invariant-loop-loading g l = record {
 }
 
 abbrev pub decreases-loop-loading : goal.decreases-loop-loading
-decreases-loop-loading g l = 268435456 - l.loading.end
+decreases-loop-loading g l = 536870912 - l.loading.total

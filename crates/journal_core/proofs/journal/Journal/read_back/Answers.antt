@@ -1,15 +1,39 @@
-use Rattle.std.proofs.lemmas.Grind.{common_steps}
-use Rattle.std.proofs.Common.{◌≡◌, ◌∙◌, ◌+◌, ◌++◌, take, drop, length, ℕ, List, All, Option, sym, ap, subst, arith}
-use Rattle.std.proofs.lemmas.List.{take_at}
-use Rattle.std.proofs.lemmas.List.Elements.{All-cons, All-tail}
-use Rattle.journal_core.specs.declared.marks.Mark.{Mark}
-use Rattle.journal_records.specs.File.{records}
-use Rattle.journal_core.specs.Marks.{IsMark}
-use Rattle.journal_core.specs.Back.{IsFound}
-use Rattle.journal_core.specs.Journal.{Ledger}
-use Rattle.journal_core.proofs.BackLemmas.{mark_read, reads_stands}
+use Rattle.std.proofs.Common.{◌≡◌, ◌∙◌, sym, ap, subst, ℕ, ◌+◌, ◌-◌, [], get_or, arith}
+use Rattle.std.proofs.lemmas.Bool.{false≢true}
+use Rattle.journal_records.specs.File.{batches, records_of_all}
+use Rattle.journal_core.specs.Journal.{Ledger, IsReadUpTo}
+use Rattle.journal_core.specs.Back.{CanGive}
+use Rattle.journal_core.proofs.Records.{records_are}
+use Rattle.journal_core.proofs.BackLemmas.{goes_can, stands_back}
 use Rattle.journal_core.proofs.LoadLemmas.{reading_keeps}
 use Rattle.journal_core.proofs.journal.Journal.read_back.Goals as goal
+
+pub give_many-requires-clause-told : goal.give_many-requires-clause-told
+give_many-requires-clause-told g c = λ tells.
+    let a = g.S.Site.state c.args.site.now in
+    let bs = batches a.image in
+    let P : Ledger → Type 0 = λ v. CanGive bs v.behind (c.args.n - v.behind) v.reading v.end a.image in (
+      bs,
+      c.self.inside.behind,
+      subst P (sym c.self.view_is) (goes_can c.args.n c.args.self.now c.go_before.new.self a (c.requires.stands tells) c.go_before.ensures.goes
+          c.requires.within),
+    )
+
+pub returns-in_err-found-clause-jobs : goal.returns-in_err-found-clause-jobs
+returns-in_err-found-clause-jobs g c = λ tells. reading_keeps _ _ (c.give_many.ensures.told tells)
+
+pub returns-then-not-found-clause-told : goal.returns-then-not-found-clause-told
+returns-then-not-found-clause-told g c = λ tells.
+    let a = g.S.Site.state c.args.site.now in
+    let bs = batches a.image in
+    let P : Ledger → Type 0 = λ v. CanGive bs v.behind (c.args.n - v.behind) v.reading v.end a.image in
+    let can = subst P (sym c.self.view_is) (goes_can c.args.n c.args.self.now c.go_before.new.self a (c.requires.stands tells)
+    c.go_before.ensures.goes c.requires.within) in
+    let given = c.in_ok-found.ensures.given tells bs c.self.inside.behind can in
+    absurd (false≢true (sym c.if-not-found.true ∙ given.0))
+
+pub returns-then-not-found-clause-jobs : goal.returns-then-not-found-clause-jobs
+returns-then-not-found-clause-jobs g c = λ tells. reading_keeps _ _ (c.give_many.ensures.told tells)
 
 pub returns-clause-told : goal.returns-clause-told
 returns-clause-told g c = λ tells.
@@ -17,36 +41,28 @@ returns-clause-told g c = λ tells.
     let j = c.args.self.now in
     let n = c.args.n in
     let a = g.S.Site.state c.args.site.now in
-    let rs = records a.image in
-    let stands = c.requires.stands tells in
+    let b = g.S.Site.state c.give_many.new.site in
+    let bs = batches a.image in
+    let goes = c.go_before.ensures.goes in
+    let P : Ledger → Type 0 = λ v. CanGive bs v.behind (n - v.behind) v.reading v.end a.image in
+    let can = subst P (sym c.self.view_is) (goes_can n j c.go_before.new.self a (c.requires.stands tells) goes c.requires.within) in
+    let has = (c.in_ok-found.ensures.given tells bs i.behind can).1 in
+    let behind : i.behind ≡ c.go_before.new.self.behind = ap (λ (v : Ledger). v.behind) c.self.view_is in
+    let e : i.behind + (n - i.behind) ≡ n = (let before = goes.before in omega arith) in
+    let U : ℕ → Type 0 = λ v. IsReadUpTo bs v c.give_many.new.reader i.end b.image in
     let reads = c.in_ok-found.ensures.told tells in
-    let P : Option (ℕ × ℕ) → Type 0 = λ v. IsFound n rs v c.record_from.new.buffer in
-    let found = subst P c.in-Some.is (c.in_ok-found.ensures.record_is tells) in
-    let Q : List Mark → Type 0 = λ v. All (IsMark rs) v in
-    let kept = All-tail (IsMark rs) i.last i.marks.places (subst Q (sym (ap (λ (v : Ledger). v.marks) c.self.view_is)) stands.marks) in
-    let here = mark_read rs n c.in-Some.place c.in-Some.size c.requires.some (omega (arith, stands.count)) found.0 found.1 in
-    let buffer = c.record_from.new.buffer in
-    let whole : take i.buffer.len (buffer ++ drop (length buffer) i.buffer.items) ≡ buffer = take_at buffer _ _ (omega arith) in
     record {
       reads = reads;
-      record_is = ap (take c.in-Some.size) whole ∙ found.2;
-      stands = reads_stands j _ a _ stands reads (ap (λ (v : Ledger). v.manager) c.self.view_is)
-          (ap (λ (v : Ledger). v.count) c.self.view_is) (ap (λ (v : Ledger). v.end) c.self.view_is)
-          (All-cons (IsMark rs) (record { before = n; place = c.in-Some.place + 5 + c.in-Some.size }) i.marks.places here kept);
+      record_is = has.last ∙ ap (λ v. get_or (records_of_all bs) (v - 1) []) e ∙ ap (λ v. get_or v (n - 1) []) (sym (records_are a.image));
+      stands = stands_back j _ a b (c.requires.stands tells) reads
+          (ap (λ (v : Ledger). v.manager) c.self.view_is ∙ ap (λ (v : Ledger). v.manager) goes.same)
+          (ap (λ (v : Ledger). v.count) c.self.view_is ∙ ap (λ (v : Ledger). v.count) goes.same)
+          (ap (λ (v : Ledger). v.end) c.self.view_is ∙ ap (λ (v : Ledger). v.end) goes.same)
+          (ap (λ (v : Ledger). v.saved) c.self.view_is ∙ ap (λ (v : Ledger). v.saved) goes.same)
+          (ap (λ (v : Ledger). v.marks) c.self.view_is ∙ ap (λ (v : Ledger). v.marks) goes.same)
+          (subst U e has.reading);
       whole = λ k wrong. cc wrong;
     }
 
 pub returns-clause-jobs : goal.returns-clause-jobs
-returns-clause-jobs g c = λ tells. reading_keeps _ _ (c.in_ok-found.ensures.told tells)
-
-pub returns-in_err-found-clause-jobs : goal.returns-in_err-found-clause-jobs
-returns-in_err-found-clause-jobs g c = λ tells. reading_keeps _ _ (c.record_from.ensures.told tells)
-
-pub invariant_of-self : goal.invariant_of-self
-invariant_of-self g c = grind (arith, common_steps)
-
-pub invariant_of-self-in_default : goal.invariant_of-self-in_default
-invariant_of-self-in_default g c = grind (arith, common_steps)
-
-pub invariant_of-self-2 : goal.invariant_of-self-2
-invariant_of-self-2 g c = grind (arith, common_steps)
+returns-clause-jobs g c = λ tells. reading_keeps _ _ (c.give_many.ensures.told tells)
