@@ -22,7 +22,7 @@ use Rattle.command_line.specs.Found.{HasValues}
 use Rattle.command_line.specs.Words.{Pair, Word, are_of, command_named, fits, given, is_option, needed_of, options_of, pairs_of, parted}
 use Rattle.command_line.specs.Words.{stand_once, stands, takes}
 use Rattle.command_line.specs.declared.options.Command.{Command}
-use Rattle.command_line.specs.declared.options.Command.TheVariants.{Init, Onboard, Once}
+use Rattle.command_line.specs.declared.options.Command.TheVariants.{Check, Init, Onboard, Once}
 
 -- what `clap` is told of an option, and of the words
 abbrev pub option_rule : Word → Word → Rule
@@ -343,6 +343,7 @@ known_among o (q ∷ qs) all any = go (bytes_eq o q) refl (known_among o qs all.
 options_known : (c : Command) → AllKnown (options_of c)
 options_known Init = (inl refl, (inr (inl refl), tt))
 options_known Onboard = (inl refl, tt)
+options_known Check = (inl refl, tt)
 options_known Once = (
   inl refl,
   (

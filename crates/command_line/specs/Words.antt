@@ -10,7 +10,7 @@ use Rattle.std.specs.Char.{is_ascii_digit}
 use Rattle.lcm_events.specs.declared.states.Role.{Role}
 use Rattle.lcm_events.specs.declared.states.Role.TheVariants.{Element, Orchestrator}
 use Rattle.command_line.specs.declared.options.Command.{Command}
-use Rattle.command_line.specs.declared.options.Command.TheVariants.{Init, Onboard, Once}
+use Rattle.command_line.specs.declared.options.Command.TheVariants.{Check, Init, Onboard, Once}
 use Rattle.command_line.specs.declared.options.Settings.{Settings}
 use Rattle.command_line.specs.declared.options.SettingsFault.{SettingsFault}
 use Rattle.command_line.specs.declared.options.SettingsFault.TheVariants.{Usage, Memory}
@@ -47,19 +47,22 @@ abbrev pub command_named : Word → Option Command
 command_named name =
     if bytes_eq name (codes "init") then Some Init
     else (if bytes_eq name (codes "onboard") then Some Onboard
-    else (if bytes_eq name (codes "once") then Some Once else None))
+    else (if bytes_eq name (codes "once") then Some Once
+    else (if bytes_eq name (codes "check") then Some Check else None)))
 
 -- the options of a command
 abbrev pub options_of : Command → List Word
 options_of Init = codes "--journal" ∷ codes "--manager" ∷ []
 options_of Onboard = codes "--journal" ∷ []
 options_of Once = codes "--journal" ∷ codes "--role" ∷ codes "--rounds" ∷ codes "--orchestrator" ∷ codes "--vim" ∷ []
+options_of Check = codes "--journal" ∷ []
 
 -- those that have to stand
 abbrev pub needed_of : Command → List Word
 needed_of Init = codes "--journal" ∷ codes "--manager" ∷ []
 needed_of Onboard = codes "--journal" ∷ []
 needed_of Once = codes "--journal" ∷ []
+needed_of Check = codes "--journal" ∷ []
 
 -- the words are pairs of an option and its value, these
 abbrev pub pairs_of : List Word → Option (List Pair)
@@ -123,6 +126,7 @@ abbrev pub rounds_for : Command → ℕ → ℕ
 rounds_for Init rounds = 0
 rounds_for Onboard rounds = 0
 rounds_for Once rounds = rounds
+rounds_for Check rounds = 0
 
 -- what a command with these pairs sets; a text is empty and a number 0 where it lacks the option
 abbrev pub settings_for : Command → List Pair → Settings

@@ -12,6 +12,8 @@ pub enum Command {
     Onboard,
     /// Answers the requests on standard input.
     Once,
+    /// Counts what a journal has.
+    Check,
 }
 
 /// What the words set; empty or 0 where the command lacks it.

@@ -40,6 +40,7 @@ pub fn command_named(name: &Text) -> Option<Command>
         "init" => Some(Command::Init),
         "onboard" => Some(Command::Onboard),
         "once" => Some(Command::Once),
+        "check" => Some(Command::Check),
         _ => None,
     }
 }
@@ -65,7 +66,7 @@ fn has_needed(command: Command, words: &[Text]) -> bool
 {
     match command {
         Command::Init => stands("--journal", words) && stands("--manager", words),
-        Command::Onboard | Command::Once => stands("--journal", words),
+        Command::Onboard | Command::Once | Command::Check => stands("--journal", words),
     }
 }
 
@@ -111,7 +112,7 @@ pub fn has_option(command: Command, option: &str) -> bool
 {
     match command {
         Command::Init => option == "--journal" || option == "--manager",
-        Command::Onboard => option == "--journal",
+        Command::Onboard | Command::Check => option == "--journal",
         Command::Once => {
             option == "--journal"
                 || option == "--role"

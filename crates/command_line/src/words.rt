@@ -84,7 +84,7 @@ fn rounds_for(command: Command, rounds: u32) -> u32
     ensures { result ≡ rounds_for command rounds }
 {
     match command {
-        Command::Init | Command::Onboard => 0,
+        Command::Init | Command::Onboard | Command::Check => 0,
         Command::Once => rounds,
     }
 }

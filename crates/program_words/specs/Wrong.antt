@@ -5,7 +5,7 @@ use Rattle.std.specs.List.{list_any}
 use Rattle.std.specs.Str.{bytes_eq}
 use Rattle.command_line.specs.Words.{Word as Bytes, command_named, options_of, takes}
 use Rattle.command_line.specs.declared.options.Command.{Command}
-use Rattle.command_line.specs.declared.options.Command.TheVariants.{Init, Onboard, Once}
+use Rattle.command_line.specs.declared.options.Command.TheVariants.{Check, Init, Onboard, Once}
 use Rattle.program_words.specs.declared.wrong.Wrong.{Wrong}
 use Rattle.program_words.specs.declared.wrong.Wrong.TheVariants.{Word, NotBuilt, Twice, NoCommand, NoValue, Value}
 use Rattle.program_words.specs.declared.wrong.Wrong.TheVariants.{NoJournal, NoManager, Nothing}
@@ -23,6 +23,7 @@ abbrev pub needs_manager : Command → Bool
 needs_manager Init = true
 needs_manager Onboard = false
 needs_manager Once = false
+needs_manager Check = false
 
 -- what is wrong where the words end: an option that has to stand doesn't
 abbrev pub wrong_at_end : Command → List Bytes → Wrong
@@ -49,7 +50,7 @@ wrong_behind command before (option ∷ value ∷ rest) =
 
 -- the usage line names a command so that isn't built yet
 abbrev pub is_unbuilt : Bytes → Bool
-is_unbuilt name = is_among (codes "serve" ∷ codes "check" ∷ codes "trial" ∷ []) name
+is_unbuilt name = is_among (codes "serve" ∷ codes "trial" ∷ []) name
 
 -- what is wrong first behind the name of a command, if it is one
 abbrev pub wrong_of_command : Option Command → Bytes → List Bytes → Wrong

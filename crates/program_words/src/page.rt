@@ -15,6 +15,8 @@ pub enum Page {
     Onboard,
     /// What those of `once` are.
     Once,
+    /// What those of `check` are.
+    Check,
     /// The program's version.
     Version,
 }
@@ -25,6 +27,7 @@ const HELP: &str = "vnfm: a VNF lifecycle manager after ETSI GS NFV-SOL 003 V2.6
     vnfm init --journal PATH --manager N    make the journal of manager N, from 0 to 4294967295, at PATH
     vnfm onboard --journal PATH             onboard the descriptor on standard input, a JSON document
     vnfm once --journal PATH [OPTION..]     answer the requests on standard input, and record what they ask for
+    vnfm check --journal PATH               count what the journal at PATH has, and change nothing
     vnfm COMMAND --help                     print the words of a command, with an example
     vnfm --help                             print this text
     vnfm --version                          print the version
@@ -40,7 +43,8 @@ how it went:
     0  journal made for manager N
     0  onboarded ID: V vdus, A aspects, L levels
     0  done after N rounds      the requests were answered, with a refusal too
-    2  usage: ..                the words are no command; serve, check and trial, which it names, aren't built yet
+    0  records R, instances I, ongoing G, subscriptions S
+    2  usage: ..                the words are no command; serve and trial, which it names, aren't built yet
     3  site fault               a disk call failed
     4  door fault               there was no connection, or the descriptor couldn't be read
     5  no journal               the file at PATH is unfinished
@@ -96,6 +100,17 @@ up to its end or to the first that asks to close it. A body has at most 1048576 
 output.
 ";
 
+/// What `check --help` prints.
+const CHECK: &str =
+    "vnfm check --journal PATH    count what the journal at PATH has, and change nothing
+
+    vnfm check --journal journal
+
+PATH is a journal that init made. It is read whole and judged, as by each command that opens it, and stays as it is.
+Counted are its records, the VNF instances that aren't deleted, the operations that haven't ended (STARTING, PROCESSING,
+FAILED_TEMP or ROLLING_BACK) and the subscriptions that aren't deleted, of both roles.
+";
+
 /// What `--version` prints.
 const VERSION: &str = "vnfm 0.1.0\n";
 
@@ -109,6 +124,7 @@ impl Page {
             Page::Init => INIT,
             Page::Onboard => ONBOARD,
             Page::Once => ONCE,
+            Page::Check => CHECK,
             Page::Version => VERSION,
         }
     }
@@ -158,6 +174,9 @@ fn command_page(command: &Text) -> Option<Page>
     }
     if command.as_str() == "once" {
         return Some(Page::Once);
+    }
+    if command.as_str() == "check" {
+        return Some(Page::Check);
     }
     None
 }

@@ -55,7 +55,7 @@ fn is_unbuilt(name: &Text) -> bool
     ensures { result ≡ is_unbuilt name.now }
 {
     let name = name.as_str();
-    name == "serve" || name == "check" || name == "trial"
+    name == "serve" || name == "trial"
 }
 
 /// What is wrong first behind a command's name, which is the first word.
@@ -104,7 +104,7 @@ fn needs_manager(command: Command) -> bool
 {
     match command {
         Command::Init => true,
-        Command::Onboard | Command::Once => false,
+        Command::Onboard | Command::Once | Command::Check => false,
     }
 }
 

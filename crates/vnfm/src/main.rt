@@ -135,7 +135,7 @@ fn main(rt: HostRuntime) -> ExitCode {
     let status = match settings_in(rt.alloc(), env::args(&rt)) {
         Ok(Some(settings)) => match settings.command {
             Command::Once => start_once(&rt, &settings),
-            Command::Init | Command::Onboard => start_alone(&rt, true),
+            Command::Init | Command::Onboard | Command::Check => start_alone(&rt, true),
         },
         Ok(None) => start_alone(&rt, true),
         Err(AllocError) => start_alone(&rt, false),

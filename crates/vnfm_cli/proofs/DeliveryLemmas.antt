@@ -20,7 +20,7 @@ use Rattle.vnfm_cli.specs.Deliveries.{TellsOfWhatStands, sent_at_close, sent_beh
 use Rattle.vnfm_commands.proofs.ToldLemmas.{acted_extends, close_aims, posts_aim, posts_extend}
 use Rattle.vnfm_commands.specs.Course.{Close, Course, Opening, Round, Service, close_work, finished, halted, making, misused, moment_of}
 use Rattle.vnfm_commands.specs.Course.{Turning, Visit, onboarding, once_acted, once_made, once_posted, opened, serving, starved, stopped}
-use Rattle.vnfm_commands.specs.Course.{undelivered, unopened, unreached}
+use Rattle.vnfm_commands.specs.Course.{counting, undelivered, unopened, unreached}
 use Rattle.vnfm_commands.specs.Outside.{Beside, Tells, posting_tells}
 use Rattle.vnfm_commands.specs.Rounds.{CloseDoes, RoundGoes, RoundsDo}
 use Rattle.vnfm_commands.specs.Runs.{CourseDoes, IsLegalCourse}
@@ -86,26 +86,26 @@ round_sent t m now H (p ∷ before) xs a b did are =
     (round_sent t m now H before xs a did.0 did.1 are)
 
 -- and the one that wasn't recorded
-last_sent : (t : LentTell) (m now : ℕ) (H : List Event) (ps : List Dispatch) (end : RoundEnd) (xs : List Sending) (a b : Carrier)
-    → outbox.EndDoes t m now (once_all_dispatched now H ps) end a b → AreSent m (once_all_dispatched now H ps) xs
+last_sent : (t : LentTell) (m saved now : ℕ) (H : List Event) (ps : List Dispatch) (end : RoundEnd) (xs : List Sending) (a b : Carrier)
+    → outbox.EndDoes t m saved now (once_all_dispatched now H ps) end a b → AreSent m (once_all_dispatched now H ps) xs
     → AreSent m (once_all_dispatched now H ps) (sent_last now H ps end xs)
-last_sent t m now H ps outbox.through xs a b does are = are
-last_sent t m now H ps (outbox.stopped s idle why) xs a b does are = are
-last_sent t m now H ps (outbox.stopped s (held place) why) xs a b does are = are
-last_sent t m now H ps (outbox.stopped s (sent p) why) xs a b does are =
+last_sent t m saved now H ps outbox.through xs a b does are = are
+last_sent t m saved now H ps (outbox.stopped s idle why) xs a b does are = are
+last_sent t m saved now H ps (outbox.stopped s (held place) why) xs a b does are = are
+last_sent t m saved now H ps (outbox.stopped s (sent p) why) xs a b does are =
     one_sent m now H (once_all_dispatched now H ps) ps p xs does.1.next (extends_refl (once_all_dispatched now H ps)) are
 
 -- those of rounds
-rounds_sent : (t : Tells) (m : ℕ) (H : List Event) (rounds : List Round) (a b : Beside) → RoundsDo t m H rounds a b
-    → AreSent m (life (once_made m) H rounds) (sent_in_rounds m H rounds)
-rounds_sent t m H [] a b did = record { all = tt; chain = tt }
-rounds_sent t m H (r ∷ before) a b did =
-    let G : List Event = life (once_made m) H before in
-    let K : List Event = once_acted m G r.visit r.turn in
+rounds_sent : (t : Tells) (m saved : ℕ) (H : List Event) (rounds : List Round) (a b : Beside) → RoundsDo t m saved H rounds a b
+    → AreSent m (life (once_made m saved) H rounds) (sent_in_rounds m saved H rounds)
+rounds_sent t m saved H [] a b did = record { all = tt; chain = tt }
+rounds_sent t m saved H (r ∷ before) a b did =
+    let G : List Event = life (once_made m saved) H before in
+    let K : List Event = once_acted m saved G r.visit r.turn in
     let posts = did.2.posts in
-    round_sent (posting_tells t) m (moment_of r.turn) K r.dispatches (sent_in_rounds m H before) did.2.turned.courier posts.between
+    round_sent (posting_tells t) m (moment_of r.turn) K r.dispatches (sent_in_rounds m saved H before) did.2.turned.courier posts.between
     posts.posts
-    (sent_more m G K (sent_in_rounds m H before) (acted_extends m G r.visit r.turn) (rounds_sent t m H before a did.0 did.1))
+    (sent_more m G K (sent_in_rounds m saved H before) (acted_extends m saved G r.visit r.turn) (rounds_sent t m saved H before a did.0 did.1))
 
 -- these were sent on the way to a history
 record HasSent (m : ℕ) (L : List Event) (xs : List Sending) : Type 0 where
@@ -114,38 +114,40 @@ record HasSent (m : ℕ) (L : List Event) (xs : List Sending) : Type 0 where
   sent : AreSent m reached xs
 
 -- those at the end of rounds, and before
-close_sent : (t : Tells) (m : ℕ) (H : List Event) (close : Close) (xs : List Sending) (a b : Beside) → CloseDoes t m H close a b
-    → AreSent m H xs → HasSent m (aimed (close_work m H close)) (sent_at_close m H close xs)
-close_sent t m H finished xs a b does are = record { reached = H; until = close_aims m H finished; sent = are }
-close_sent t m H unreached xs a b does are = record { reached = H; until = close_aims m H unreached; sent = are }
-close_sent t m H (stopped came talk) xs a b does are = record { reached = H; until = close_aims m H (stopped came talk); sent = are }
-close_sent t m H (halted visit turn end why) xs a b does are = record {
+close_sent : (t : Tells) (m saved : ℕ) (H : List Event) (close : Close) (xs : List Sending) (a b : Beside) → CloseDoes t m saved H close a b
+    → AreSent m H xs → HasSent m (aimed (close_work m saved H close)) (sent_at_close m saved H close xs)
+close_sent t m saved H finished xs a b does are = record { reached = H; until = close_aims m saved H finished; sent = are }
+close_sent t m saved H unreached xs a b does are = record { reached = H; until = close_aims m saved H unreached; sent = are }
+close_sent t m saved H (stopped came talk) xs a b does are = record { reached = H; until = close_aims m saved H (stopped came talk); sent = are }
+close_sent t m saved H (halted visit turn end why) xs a b does are = record {
   reached = H;
-  until = close_aims m H (halted visit turn end why);
+  until = close_aims m saved H (halted visit turn end why);
   sent = are;
 }
-close_sent t m H (undelivered visit turn ps end why) xs a b does are =
-    let K : List Event = once_acted m H visit turn in
+close_sent t m saved H (undelivered visit turn ps end why) xs a b does are =
+    let K : List Event = once_acted m saved H visit turn in
     let L : List Event = once_posted turn K ps in
     let posts = does.0.posts in
     let behind = round_sent (posting_tells t) m (moment_of turn) K ps xs does.0.turned.courier posts.between posts.posts
-    (sent_more m H K xs (acted_extends m H visit turn) are) in
+    (sent_more m H K xs (acted_extends m saved H visit turn) are) in
     record {
       reached = L;
       until = posts_aim (moment_of turn) L end;
-      sent = last_sent (posting_tells t) m (moment_of turn) K ps end (sent_behind (moment_of turn) K ps xs) posts.between b.courier
+      sent = last_sent (posting_tells t) m saved (moment_of turn) K ps end (sent_behind (moment_of turn) K ps xs) posts.between b.courier
           posts.end_does behind;
     }
 
 -- all that a service sent
 service_sent : (t : Tells) (start : Opening) (service : Service) (a b : Beside) → CourseDoes t (opened start (serving service)) a b
-    → HasSent start.number (aimed (close_work start.number (life (once_made start.number) start.history service.rounds) service.close))
+    → HasSent start.number
+    (aimed (close_work start.number start.saved (life (once_made start.number start.saved) start.history service.rounds) service.close))
     (sent_by start service)
 service_sent t start service a b does =
     let serves = does.2 in
     let m : ℕ = start.number in
-    close_sent t m (life (once_made m) start.history service.rounds) service.close (sent_in_rounds m start.history service.rounds)
-    serves.between b serves.close (rounds_sent t m start.history service.rounds does.0 serves.between serves.rounds)
+    let saved : ℕ = start.saved in
+    close_sent t m saved (life (once_made m saved) start.history service.rounds) service.close
+    (sent_in_rounds m saved start.history service.rounds) serves.between b serves.close (rounds_sent t m saved start.history service.rounds does.0 serves.between serves.rounds)
 
 -- the courier's posts are those of the dispatches of a round, behind the earlier ones
 posted_behind : (t : LentTell) (m now : ℕ) (H : List Event) (ps : List Dispatch) (xs : List Sending) (a b c : Carrier)
@@ -157,60 +159,61 @@ posted_behind t m now H (p ∷ earlier) xs a b c before did = (
   did.2,
 )
 
-posted_last : (t : LentTell) (m now : ℕ) (H : List Event) (ps : List Dispatch) (end : RoundEnd) (xs : List Sending) (a b c : Carrier)
-    → ArePosted t m xs a b → outbox.EndDoes t m now (once_all_dispatched now H ps) end b c
+posted_last : (t : LentTell) (m saved now : ℕ) (H : List Event) (ps : List Dispatch) (end : RoundEnd) (xs : List Sending) (a b c : Carrier)
+    → ArePosted t m xs a b → outbox.EndDoes t m saved now (once_all_dispatched now H ps) end b c
     → ArePosted t m (sent_last now H ps end xs) a c
-posted_last t m now H ps outbox.through xs a b c before does = subst (λ (x : Carrier). ArePosted t m xs a x) (sym does) before
-posted_last t m now H ps (outbox.stopped s idle why) xs a b c before does =
+posted_last t m saved now H ps outbox.through xs a b c before does = subst (λ (x : Carrier). ArePosted t m xs a x) (sym does) before
+posted_last t m saved now H ps (outbox.stopped s idle why) xs a b c before does =
     subst (λ (x : Carrier). ArePosted t m xs a x) (sym does.1) before
-posted_last t m now H ps (outbox.stopped s (held place) why) xs a b c before does =
+posted_last t m saved now H ps (outbox.stopped s (held place) why) xs a b c before does =
     subst (λ (x : Carrier). ArePosted t m xs a x) (sym does.1) before
-posted_last t m now H ps (outbox.stopped s (sent p) why) xs a b c before does = (b, before, does.1)
+posted_last t m saved now H ps (outbox.stopped s (sent p) why) xs a b c before does = (b, before, does.1)
 
 -- those of a round, and of the one that wasn't recorded
-round_posts : (t : Tells) (m : ℕ) (H : List Event) (visit : Visit) (turn : Turning) (ps : List Dispatch) (end : RoundEnd)
-    (xs : List Sending) (a b c : Beside) → RoundGoes t m H visit turn ps end b c → ArePosted (posting_tells t) m xs a.courier b.courier
-    → ArePosted (posting_tells t) m (sent_last (moment_of turn) (once_acted m H visit turn) ps end
-    (sent_behind (moment_of turn) (once_acted m H visit turn) ps xs)) a.courier c.courier
-round_posts t m H visit turn ps end xs a b c goes before =
-    let K : List Event = once_acted m H visit turn in
+round_posts : (t : Tells) (m saved : ℕ) (H : List Event) (visit : Visit) (turn : Turning) (ps : List Dispatch) (end : RoundEnd)
+    (xs : List Sending) (a b c : Beside) → RoundGoes t m saved H visit turn ps end b c → ArePosted (posting_tells t) m xs a.courier b.courier
+    → ArePosted (posting_tells t) m (sent_last (moment_of turn) (once_acted m saved H visit turn) ps end
+    (sent_behind (moment_of turn) (once_acted m saved H visit turn) ps xs)) a.courier c.courier
+round_posts t m saved H visit turn ps end xs a b c goes before =
+    let K : List Event = once_acted m saved H visit turn in
     let now : ℕ = moment_of turn in
     let turned = subst (λ (x : Carrier). ArePosted (posting_tells t) m xs a.courier x)
     (sym (goes.turns.courier ∙ goes.visits.asks.courier)) before in
-    posted_last (posting_tells t) m now K ps end (sent_behind now K ps xs) a.courier goes.posts.between c.courier
+    posted_last (posting_tells t) m saved now K ps end (sent_behind now K ps xs) a.courier goes.posts.between c.courier
     (posted_behind (posting_tells t) m now K ps xs a.courier goes.turned.courier goes.posts.between turned goes.posts.posts)
     goes.posts.end_does
 
-rounds_post : (t : Tells) (m : ℕ) (H : List Event) (rounds : List Round) (a b : Beside) → RoundsDo t m H rounds a b
-    → ArePosted (posting_tells t) m (sent_in_rounds m H rounds) a.courier b.courier
-rounds_post t m H [] a b did = ap (λ (x : Beside). x.courier) did
-rounds_post t m H (r ∷ before) a b did =
-    round_posts t m (life (once_made m) H before) r.visit r.turn r.dispatches outbox.through (sent_in_rounds m H before) a did.0 b did.2
-    (rounds_post t m H before a did.0 did.1)
+rounds_post : (t : Tells) (m saved : ℕ) (H : List Event) (rounds : List Round) (a b : Beside) → RoundsDo t m saved H rounds a b
+    → ArePosted (posting_tells t) m (sent_in_rounds m saved H rounds) a.courier b.courier
+rounds_post t m saved H [] a b did = ap (λ (x : Beside). x.courier) did
+rounds_post t m saved H (r ∷ before) a b did =
+    round_posts t m saved (life (once_made m saved) H before) r.visit r.turn r.dispatches outbox.through (sent_in_rounds m saved H before) a did.0 b did.2
+    (rounds_post t m saved H before a did.0 did.1)
 
-close_posts : (t : Tells) (m : ℕ) (H : List Event) (close : Close) (xs : List Sending) (a b c : Beside) → CloseDoes t m H close b c
+close_posts : (t : Tells) (m saved : ℕ) (H : List Event) (close : Close) (xs : List Sending) (a b c : Beside) → CloseDoes t m saved H close b c
     → ArePosted (posting_tells t) m xs a.courier b.courier
-    → ArePosted (posting_tells t) m (sent_at_close m H close xs) a.courier c.courier
-close_posts t m H close xs a b c does before = by close does
+    → ArePosted (posting_tells t) m (sent_at_close m saved H close xs) a.courier c.courier
+close_posts t m saved H close xs a b c does before = by close does
   where
     same : c.courier ≡ b.courier → ArePosted (posting_tells t) m xs a.courier c.courier
     same is = subst (λ (x : Carrier). ArePosted (posting_tells t) m xs a.courier x) (sym is) before
 
-    by : (k : Close) → CloseDoes t m H k b c → ArePosted (posting_tells t) m (sent_at_close m H k xs) a.courier c.courier
+    by : (k : Close) → CloseDoes t m saved H k b c → ArePosted (posting_tells t) m (sent_at_close m saved H k xs) a.courier c.courier
     by finished done = same (ap (λ (x : Beside). x.courier) done)
     by unreached done = same done.2
     by (stopped came talk) done = same done.1.courier
     by (halted visit turn end why) done = same (done.2.courier ∙ done.1.asks.courier)
-    by (undelivered visit turn ps end why) done = round_posts t m H visit turn ps end xs a b c done.0 before
+    by (undelivered visit turn ps end why) done = round_posts t m saved H visit turn ps end xs a b c done.0 before
 
 service_posts : (t : Tells) (start : Opening) (service : Service) (a b : Beside) → CourseDoes t (opened start (serving service)) a b
     → ArePosted (posting_tells t) start.number (sent_by start service) a.courier b.courier
 service_posts t start service a b does =
     let serves = does.2 in
     let m : ℕ = start.number in
+    let saved : ℕ = start.saved in
     subst (λ (x : Carrier). ArePosted (posting_tells t) m (sent_by start service) x b.courier) does.1.asks.courier
-    (close_posts t m (life (once_made m) start.history service.rounds) service.close (sent_in_rounds m start.history service.rounds)
-    does.0 serves.between b serves.close (rounds_post t m start.history service.rounds does.0 serves.between serves.rounds))
+    (close_posts t m saved (life (once_made m saved) start.history service.rounds) service.close
+    (sent_in_rounds m saved start.history service.rounds) does.0 serves.between b serves.close (rounds_post t m saved start.history service.rounds does.0 serves.between serves.rounds))
 
 -- a history is legal before a legal one
 legal_until : (m : ℕ) (G H : List Event) → Extends G H → IsLegal m H → IsLegal m G
@@ -247,12 +250,13 @@ module _ (order : NoticesGoInOrder) (again : NoneIsPostedTooOften) (skipped : No
   goes_in_order t (making number result) a b does legal = does.asks.courier
   goes_in_order t (unopened why) a b does legal = does.asks.courier
   goes_in_order t (opened start (onboarding o)) a b does legal = does.2.1.courier ∙ does.1.asks.courier
+  goes_in_order t (opened start counting) a b does legal = ap (λ (x : Beside). x.courier) does.2 ∙ does.1.asks.courier
   goes_in_order t (opened start (serving service)) a b does legal =
       let it = service_sent t start service a b does in
       record {
         posted = service_posts t start service a b does;
         next = all_next start.number it.reached
-            (aimed (close_work start.number (life (once_made start.number) start.history service.rounds) service.close))
+            (aimed (close_work start.number start.saved (life (once_made start.number start.saved) start.history service.rounds) service.close))
             (sent_by start service) it.until legal.grows.legal it.sent.all;
         rises = never_falls start.number it.reached (sent_by start service) it.sent.all it.sent.chain;
       }
@@ -272,6 +276,7 @@ module _ (beginning : RoundsTellOfTheirBeginning) where
   tells_of_what_stands t (making number result) a b does = tt
   tells_of_what_stands t (unopened why) a b does = tt
   tells_of_what_stands t (opened start (onboarding o)) a b does = tt
+  tells_of_what_stands t (opened start counting) a b does = tt
   tells_of_what_stands t (opened start (serving service)) a b does =
       let it = service_sent t start service a b does in
       tell_all start.number it.reached (sent_by start service) it.sent.all

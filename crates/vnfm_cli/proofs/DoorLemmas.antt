@@ -21,7 +21,8 @@ use Rattle.site_traits.specs.Counts.{one_more}
 use Rattle.site_traits.specs.Door.{DoorCounts, call_failed, closed, next_failed, opened as has_come}
 use Rattle.command_line.specs.declared.options.Command.TheVariants.{Onboard, Once}
 use Rattle.vnfm_cli.specs.Causes.{FailsAtDoor}
-use Rattle.vnfm_commands.specs.Course.{Course, misused, starved, making, unopened, opened, Opening, serving, onboarding, Visit, unasked}
+use Rattle.vnfm_commands.specs.Course.{Course, misused, starved, making, unopened, opened, Opening, serving, onboarding, counting, Visit}
+use Rattle.vnfm_commands.specs.Course.{unasked}
 use Rattle.vnfm_commands.specs.Course.{served, Turning, Round, Close, finished, unreached, stopped, halted, undelivered, full}
 use Rattle.vnfm_commands.specs.Course.{starving, broken, bad, IsOfWords, close_ending, ending_of, once_made, onboarding_ending}
 use Rattle.vnfm_cli.specs.DoorFaults.{CountsFaults, CountsOnboarding, close_counts, rounds_counts, talk_counts, visit_counts}
@@ -31,40 +32,40 @@ use Rattle.vnfm_commands.specs.Runs.{CourseDoes}
 use Rattle.vnfm_commands.specs.Words.{AreWordsOf}
 use Rattle.vnfm_commands.specs.declared.ending.Failure.TheVariants.{DoorFault as DoorFailure}
 
-receives_counted : (t : WorldTells) (m : ℕ) (H : List Event) (came : Role) (talk : Talk) (a b : Peers) → Receives t m H came talk a b
+receives_counted : (t : WorldTells) (m saved : ℕ) (H : List Event) (came : Role) (talk : Talk) (a b : Peers) → Receives t m saved H came talk a b
     → b.mouth.wire.intake.counts ≡ talk_counts talk a.mouth.wire.intake.counts
-receives_counted t m H came talk a b receives =
+receives_counted t m saved H came talk a b receives =
     receives.attends.counts ∙ ap closed (receives.attends.holds.faults ∙ ap (counts_behind talk.end) receives.counts)
 
-visit_counted : (t : WorldTells) (m : ℕ) (H : List Event) (visit : Visit) (a b : Peers) → Visits t m H visit a b
+visit_counted : (t : WorldTells) (m saved : ℕ) (H : List Event) (visit : Visit) (a b : Peers) → Visits t m saved H visit a b
     → b.mouth.wire.intake.counts ≡ visit_counts visit a.mouth.wire.intake.counts
-visit_counted t m H unasked a b does = does.counts
-visit_counted t m H (served came talk) a b does = receives_counted t m H came talk a b does.0
+visit_counted t m saved H unasked a b does = does.counts
+visit_counted t m saved H (served came talk) a b does = receives_counted t m saved H came talk a b does.0
 
 -- of a round it is the visit alone that the door sees
-goes_counted : (t : Tells) (m : ℕ) (H : List Event) (visit : Visit) (turn : Turning) (ps : List Dispatch) (end : RoundEnd) (a b : Beside)
-    → RoundGoes t m H visit turn ps end a b → b.mouth.wire.intake.counts ≡ visit_counts visit a.mouth.wire.intake.counts
-goes_counted t m H visit turn ps end a b goes =
+goes_counted : (t : Tells) (m saved : ℕ) (H : List Event) (visit : Visit) (turn : Turning) (ps : List Dispatch) (end : RoundEnd) (a b : Beside)
+    → RoundGoes t m saved H visit turn ps end a b → b.mouth.wire.intake.counts ≡ visit_counts visit a.mouth.wire.intake.counts
+goes_counted t m saved H visit turn ps end a b goes =
     ap (λ (x : MouthState). x.wire.intake.counts) (goes.posts.mouth ∙ goes.turns.mouth)
-    ∙ visit_counted (session_tells t) m H visit (session_peers a) (session_peers goes.met) goes.visits.visits
+    ∙ visit_counted (session_tells t) m saved H visit (session_peers a) (session_peers goes.met) goes.visits.visits
 
-rounds_counted : (t : Tells) (m : ℕ) (H : List Event) (rounds : List Round) (a b : Beside) → RoundsDo t m H rounds a b
+rounds_counted : (t : Tells) (m saved : ℕ) (H : List Event) (rounds : List Round) (a b : Beside) → RoundsDo t m saved H rounds a b
     → b.mouth.wire.intake.counts ≡ rounds_counts rounds a.mouth.wire.intake.counts
-rounds_counted t m H [] a b did = ap (λ (p : Beside). p.mouth.wire.intake.counts) did
-rounds_counted t m H (r ∷ before) a c did =
-    goes_counted t m (life (once_made m) H before) r.visit r.turn r.dispatches outbox.through did.0 c did.2
-    ∙ ap (visit_counts r.visit) (rounds_counted t m H before a did.0 did.1)
+rounds_counted t m saved H [] a b did = ap (λ (p : Beside). p.mouth.wire.intake.counts) did
+rounds_counted t m saved H (r ∷ before) a c did =
+    goes_counted t m saved (life (once_made m saved) H before) r.visit r.turn r.dispatches outbox.through did.0 c did.2
+    ∙ ap (visit_counts r.visit) (rounds_counted t m saved H before a did.0 did.1)
 
-close_counted : (t : Tells) (m : ℕ) (H : List Event) (close : Close) (a b : Beside) → CloseDoes t m H close a b
+close_counted : (t : Tells) (m saved : ℕ) (H : List Event) (close : Close) (a b : Beside) → CloseDoes t m saved H close a b
     → b.mouth.wire.intake.counts ≡ close_counts close a.mouth.wire.intake.counts
-close_counted t m H finished a b does = ap (λ (p : Beside). p.mouth.wire.intake.counts) does
-close_counted t m H unreached a b does = does.0.unreached.counts
-close_counted t m H (stopped came talk) a b does = receives_counted (session_tells t) m H came talk (session_peers a)
+close_counted t m saved H finished a b does = ap (λ (p : Beside). p.mouth.wire.intake.counts) does
+close_counted t m saved H unreached a b does = does.0.unreached.counts
+close_counted t m saved H (stopped came talk) a b does = receives_counted (session_tells t) m saved H came talk (session_peers a)
     (session_peers b) does.0.0
-close_counted t m H (halted visit turn end why) a b does =
-    ap (λ (x : MouthState). x.wire.intake.counts) does.2.mouth ∙ visit_counted (session_tells t) m H visit (session_peers a)
+close_counted t m saved H (halted visit turn end why) a b does =
+    ap (λ (x : MouthState). x.wire.intake.counts) does.2.mouth ∙ visit_counted (session_tells t) m saved H visit (session_peers a)
     (session_peers does.0) does.1.visits
-close_counted t m H (undelivered visit turn ps end why) a b does = goes_counted t m H visit turn ps end a b does.0
+close_counted t m saved H (undelivered visit turn ps end why) a b does = goes_counted t m saved H visit turn ps end a b does.0
 
 -- what came of onboarding
 brought_counts : (tells : Type 0) (bytes : List ℕ) (failed : Bool) (a b : MouthState) → Brings tells bytes failed a b
@@ -92,12 +93,14 @@ course_counted t (opened start (serving service)) a b does =
     let serves = does.2 in
     let P : Peers → Type 0 = λ p. CountsFaults (opened start (serving service)) p.mouth.wire.intake.counts b.mouth.wire.intake.counts in
     subst P does.1.peers
-    (close_counted t start.number (life (once_made start.number) start.history service.rounds) service.close serves.between b serves.close
-    ∙ ap (close_counts service.close) (rounds_counted t start.number start.history service.rounds does.0 serves.between serves.rounds))
+    (close_counted t start.number start.saved (life (once_made start.number start.saved) start.history service.rounds) service.close serves.between b serves.close
+    ∙ ap (close_counts service.close) (rounds_counted t start.number start.saved start.history service.rounds does.0 serves.between serves.rounds))
 course_counted t (opened start (onboarding o)) a b does =
     let brings = does.2 in
     let P : Peers → Type 0 = λ p. CountsOnboarding o p.mouth.wire.intake.counts b.mouth.wire.intake.counts in
     subst P does.1.peers (onboarding_counted t.door o does.0.mouth b.mouth brings.0.door)
+course_counted t (opened start counting) a b does =
+    ap (λ (p : Beside). p.mouth.wire.intake.counts) does.2 ∙ ap (λ (p : Peers). p.mouth.wire.intake.counts) does.1.peers
 
 -- no call that failed in a talk is a wait
 ended_next : (lost cut : Bool) (c : DoorCounts) → (counts_by lost (counts_by cut c)).next ≡ c.next
@@ -122,6 +125,7 @@ rounds_next (r ∷ before) c = visit_next r.visit (rounds_counts before c) ∙ r
 quiet : (words : List (List ℕ)) (P : Type 0) (a b : DoorCounts) → (P → ⊥) → (b.next ≡ a.next) × (b.faults ≡ a.faults)
     → FailsAtDoor words P a b
 quiet words P a b never same = record {
+  asked = λ is. absurd (never is);
   rose = λ is. absurd (never is);
   stays = λ _. same.0;
   faults = λ _. ((λ is. absurd (never is)), (λ _. same.1));
@@ -130,11 +134,12 @@ quiet words P a b never same = record {
 same_counts : (a b : DoorCounts) → b ≡ a → (b.next ≡ a.next) × (b.faults ≡ a.faults)
 same_counts a b is = (ap (λ (c : DoorCounts). c.next) is, ap (λ (c : DoorCounts). c.faults) is)
 
--- a run that ends so, for one call that failed
-loud : (words : List (List ℕ)) (P : Type 0) (a b : DoorCounts) → P
+-- onboarding that ends so, for one call that failed
+loud : (words : List (List ℕ)) (P : Type 0) (a b : DoorCounts) → P → AreWordsOf Onboard words
     → (b.next ≡ one_more a.next) ⊎ (AreWordsOf Onboard words × (b.next ≡ a.next)) → b.faults ≡ one_more a.faults
     → FailsAtDoor words P a b
-loud words P a b is next faults = record {
+loud words P a b is on next faults = record {
+  asked = λ _. inl on;
   rose = λ _. next;
   stays = λ never. absurd (never is);
   faults = λ _. ((λ _. faults), (λ never. absurd (never is)));
@@ -147,11 +152,17 @@ serving_fails : (words : List (List ℕ)) (n : ℕ) (close : Close) (a b c : Doo
 serving_fails words n close a b c once same is = by close (ap (λ (k : DoorCounts). k.next) is)
   where
     stays : (P : Type 0) → (P → ⊥) → b.next ≡ c.next → FailsAtDoor words P a b
-    stays P never next = record { rose = λ p. absurd (never p); stays = λ _. next ∙ same; faults = λ other. absurd (other once) }
+    stays P never next = record {
+      asked = λ p. absurd (never p);
+      rose = λ p. absurd (never p);
+      stays = λ _. next ∙ same;
+      faults = λ other. absurd (other once);
+    }
 
     by : (x : Close) → b.next ≡ (close_counts x c).next → FailsAtDoor words (close_ending n x ≡ Err DoorFailure) a b
     by finished next = stays _ (λ p. cc p) next
     by unreached next = record {
+      asked = λ _. inr once;
       rose = λ _. inl (next ∙ ap one_more same);
       stays = λ never. absurd (never refl);
       faults =
@@ -181,11 +192,11 @@ onboarding_ends : (words : List (List ℕ)) (start : Opening) (o : Onboarding) (
     → FailsAtDoor words (ending_of (opened start (onboarding o)) ≡ Err DoorFailure) a b
 onboarding_ends words start unready a b on counted = quiet words _ a b (λ is. cc is) (same_counts a b counted)
 onboarding_ends words start unheard a b on counted = let same = same_counts (next_failed a) b counted in
-    loud words _ a b refl (inl same.0) same.1
+    loud words _ a b refl on (inl same.0) same.1
 onboarding_ends words start (cut_off bytes) a b on counted = let same = same_counts (closed (call_failed (has_come a))) b counted in
-    loud words _ a b refl (inr (on, same.0)) same.1
+    loud words _ a b refl on (inr (on, same.0)) same.1
 onboarding_ends words start (heard bytes now ended) a b on counted =
-    quiet words _ a b (never_door (verdict start.history now bytes) ended)
+    quiet words _ a b (never_door (verdict start.saved start.history now bytes) ended)
     (⊎_elim (same_counts (closed (has_come a)) b) (same_counts a b) counted)
 
 -- no journal that wasn't opened is a fault of the door
@@ -216,11 +227,14 @@ course_fails t words (opened start (serving service)) a b of does =
 course_fails t words (opened start (onboarding o)) a b of does =
     onboarding_ends words start o _ _ (record { settings = of.settings; set = of.set; is = of.is })
     (course_counted t (opened start (onboarding o)) a b does)
+course_fails t words (opened start counting) a b of does = quiet words _ _ _ (λ is. cc is)
+    (same_counts _ _ (course_counted t (opened start counting) a b does))
 
 -- the same of another way to say how it ended
 pub fails_with : (words : List (List ℕ)) (P Q : Type 0) (a b : DoorCounts) → (P → Q) → (Q → P) → FailsAtDoor words P a b
     → FailsAtDoor words Q a b
 fails_with words P Q a b there back fails = record {
+  asked = λ is. fails.asked (back is);
   rose = λ is. fails.rose (back is);
   stays = λ never. fails.stays (λ is. never (there is));
   faults = λ other. let counts = fails.faults other in ((λ is. counts.0 (back is)), (λ never. counts.1 (λ is. never (there is))));

@@ -59,6 +59,18 @@ seven_lost put (Err why) is =
     let least = kept.least in
     absurd (kept.other (sym (told_same put (failure_status why) (failure_status why) refl (λ none. omega (arith, none, least))) ∙ is))
 
+-- no failure is told as 0
+pub never_done : (put : Bool) (why : Failure) → told_status put (failure_status why) ≡ 0 → ⊥
+never_done put why none =
+    let least = (failure_is why).least in
+    let is = status_told put (failure_status why) 0 none (λ wrong. cc wrong) in
+    omega (arith, is, least)
+
+-- where 0 is told the line was put
+pub done_put : (put : Bool) → told_status put 0 ≡ 0 → put ≡ true
+done_put true is = refl
+done_put false is = absurd (omega (arith, is))
+
 -- where this is so
 abbrev pub Where : Bool → Type 0 → Type 0
 Where true T = T

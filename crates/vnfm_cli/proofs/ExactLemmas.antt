@@ -28,7 +28,8 @@ use Rattle.site_traits.specs.Site.{SiteState}
 use Rattle.vnfm_cli.specs.Causes.{FailsAtDoor}
 use Rattle.vnfm_cli.proofs.EndingLemmas.{Where}
 use Rattle.vnfm_commands.specs.Course.{Course, misused, starved, making, unopened, opened, Close, finished, unreached, stopped, halted}
-use Rattle.vnfm_commands.specs.Course.{undelivered, full, starving, broken, bad as amiss, serving, onboarding, close_ending, ending_of}
+use Rattle.vnfm_commands.specs.Course.{undelivered, full, starving, broken, bad as amiss, serving, onboarding, counting, close_ending}
+use Rattle.vnfm_commands.specs.Course.{ending_of}
 use Rattle.vnfm_commands.specs.Course.{halt_of}
 use Rattle.vnfm_commands.specs.Course.{moment_of, once_acted, once_made, once_posted, onboarding_ending, undelivered_by}
 use Rattle.vnfm_commands.specs.Course.{unopened_failure, IsOf, IsOfSettings, IsOfWords}
@@ -44,7 +45,7 @@ use Rattle.journal_core.specs.declared.create.CreateFault.TheVariants as creatin
 use Rattle.command_line.specs.Words.{settings_of}
 use Rattle.vnfm_commands.specs.Words.{AreInit, AreLoading, AreWordsOf, loads}
 use Rattle.command_line.specs.declared.options.Command.{Command}
-use Rattle.command_line.specs.declared.options.Command.TheVariants.{Init, Onboard, Once}
+use Rattle.command_line.specs.declared.options.Command.TheVariants.{Check, Init, Onboard, Once}
 use Rattle.command_line.specs.declared.options.Settings.{Settings}
 use Rattle.vnfm_commands.specs.declared.ending.Failure.TheVariants.{SiteFault, DoorFault, BadRecord}
 use Rattle.vnfm_commands.proofs.DiskLemmas.{one_fault}
@@ -95,7 +96,7 @@ IsTold tells words a n =
     × Where (n == 11) (tells → (m : ℕ) × AreInit m words × (IsUnfinished m a.image → ⊥))
 
 -- where the site tells no record that is read back is bad
-module _ (t : Tells) (m : ℕ) where
+module _ (t : Tells) (m saved : ℕ) where
   -- an act reads nothing back
   never_bad_act : (why : WorkFault) (n : ℕ) → halt_of why ≡ Some (amiss n) → ⊥
   never_bad_act (working.Full end more) n is = cc is
@@ -121,14 +122,14 @@ module _ (t : Tells) (m : ℕ) where
   never_bad_course H s (sent p) n told course = course
 
   never_bad_posts : (now : ℕ) (H : List Event) (end : RoundEnd) (n : ℕ) (a b : Carrier) → t.site → StopsBy end (amiss n)
-      → outbox.EndDoes (posting_tells t) m now H end a b → ⊥
+      → outbox.EndDoes (posting_tells t) m saved now H end a b → ⊥
   never_bad_posts now H outbox.through n a b told stops does = stops
   never_bad_posts now H (outbox.stopped s c cause) n a b told stops does =
       let P : DeliveryFault → Type 0 = λ why. IsCourse (posting_tells t) m H s c (Err why) in
       never_bad_course H s c n told (subst P (bad_record_is cause n stops) does.0)
 
   -- so rounds end with no bad record
-  never_bad : (H : List Event) (close : Close) (n rounds : ℕ) (a b : Beside) → t.site → CloseDoes t m H close a b
+  never_bad : (H : List Event) (close : Close) (n rounds : ℕ) (a b : Beside) → t.site → CloseDoes t m saved H close a b
       → close_ending rounds close ≡ Err (BadRecord n) → ⊥
   never_bad H finished n rounds a b told does is = cc is
   never_bad H unreached n rounds a b told does is = cc is
@@ -141,7 +142,7 @@ module _ (t : Tells) (m : ℕ) where
   never_bad H (undelivered visit turn ps end starving) n rounds a b told does is = cc is
   never_bad H (undelivered visit turn ps end broken) n rounds a b told does is = cc is
   never_bad H (undelivered visit turn ps end (amiss k)) n rounds a b told does is =
-      never_bad_posts (moment_of turn) (once_posted turn (once_acted m H visit turn) ps) end k does.0.posts.between b.courier told
+      never_bad_posts (moment_of turn) (once_posted turn (once_acted m saved H visit turn) ps) end k does.0.posts.between b.courier told
       does.1 does.0.posts.end_does
 
 -- rounds that this course made ended with no bad record, where the site tells
@@ -156,9 +157,10 @@ ends_good t starved a b does = tt
 ends_good t (making number result) a b does = tt
 ends_good t (unopened why) a b does = tt
 ends_good t (opened start (onboarding o)) a b does = tt
+ends_good t (opened start counting) a b does = tt
 ends_good t (opened start (serving service)) a b does = λ n told is.
-    never_bad t start.number (life (once_made start.number) start.history service.rounds) service.close n (length service.rounds)
-    does.2.between b told does.2.close is
+    never_bad t start.number start.saved (life (once_made start.number start.saved) start.history service.rounds) service.close n
+    (length service.rounds) does.2.between b told does.2.close is
 
 -- so it tells, by the way that the run went
 module _ (tells : Type 0) (words : List (List ℕ)) (a b : SiteState) where
@@ -206,12 +208,13 @@ module _ (tells : Type 0) (words : List (List ℕ)) (a b : SiteState) where
   told_so (opened start (onboarding unheard)) of at good = (tt, tt, tt, tt, tt)
   told_so (opened start (onboarding (cut_off bytes))) of at good = (tt, tt, tt, tt, tt)
   told_so (opened start (onboarding (heard bytes now done))) of at good =
-      judged_so (record { settings = of.settings; set = of.set; is = of.is }) (verdict start.history now bytes)
+      judged_so (record { settings = of.settings; set = of.set; is = of.is }) (verdict start.saved start.history now bytes)
   told_so (opened start (onboarding (heard bytes now breaking))) of at good = (tt, tt, tt, tt, tt)
   told_so (opened start (onboarding (heard bytes now no_memory))) of at good = (tt, tt, tt, tt, tt)
+  told_so (opened start counting) of at good = (tt, tt, tt, tt, tt)
 
 -- the course of words of a command is one of settings of that command
-of_command : (command : Command) (words : List (List ℕ)) (course : Course) → AreWordsOf command words → IsOfSettings words course
+pub of_command : (command : Command) (words : List (List ℕ)) (course : Course) → AreWordsOf command words → IsOfSettings words course
     → (s : Settings) × (s.command ≡ command) × IsOf s course
 of_command command words course are of = (are.settings, are.is, of_settings words course are.settings are.set of)
 
@@ -245,6 +248,8 @@ taken_ending (opened start (serving service)) words a b m are of at not = let it
     of_init m words (opened start (serving service)) are of in never_served _ it.0 Init Once it.1 it.3.command (λ wrong. cc)
 taken_ending (opened start (onboarding o)) words a b m are of at not = let it = of_init m words (opened start (onboarding o)) are of in
     never_served _ it.0 Init Onboard it.1 it.3 (λ wrong. cc)
+taken_ending (opened start counting) words a b m are of at not = let it = of_init m words (opened start counting) are of in
+    never_served _ it.0 Init Check it.1 it.3 (λ wrong. cc)
 
 -- where `init` did its work the file is made
 pub made_ending : (course : Course) (words : List (List ℕ)) (a b : SiteState) (m : ℕ) → AreInit m words → IsOfWords words course
@@ -262,6 +267,8 @@ made_ending (opened start (serving service)) words a b m are of at is = let it =
     never_served _ it.0 Init Once it.1 it.3.command (λ wrong. cc)
 made_ending (opened start (onboarding o)) words a b m are of at is = let it = of_init m words (opened start (onboarding o)) are of in
     never_served _ it.0 Init Onboard it.1 it.3 (λ wrong. cc)
+made_ending (opened start counting) words a b m are of at is = let it = of_init m words (opened start counting) are of in
+    never_served _ it.0 Init Check it.1 it.3 (λ wrong. cc)
 
 -- `init` ends with 0, 6 or 11, unless the disk failed
 complete_init : (course : Course) (words : List (List ℕ)) (a b : SiteState) → AreWordsOf Init words → IsOfWords words course
@@ -277,6 +284,8 @@ complete_init (opened start (serving service)) words a b are of disk = let it =
     of_command Init words (opened start (serving service)) are of in never_served _ it.0 Init Once it.1 it.2.command (λ wrong. cc)
 complete_init (opened start (onboarding o)) words a b are of disk = let it = of_command Init words (opened start (onboarding o)) are of in
     never_served _ it.0 Init Onboard it.1 it.2 (λ wrong. cc)
+complete_init (opened start counting) words a b are of disk = let it = of_command Init words (opened start counting) are of in
+    never_served _ it.0 Init Check it.1 it.2 (λ wrong. cc)
 
 -- rounds do their work, or find the journal full or no memory, unless the disk or the door failed or a record is bad
 rounds_done : (rounds : ℕ) (close : Close) → (close_ending rounds close ≡ Err SiteFault → ⊥)
@@ -312,6 +321,10 @@ door_cause Once words failed a b are fails is = ⊎_elim
     (λ (next : b.next ≡ one_more a.next). one_fault a.next b.next next)
     (λ (on : AreWordsOf Onboard words × (b.next ≡ a.next)). let same = same_command words Once Onboard are on.0 in cc)
     (fails.rose is)
+door_cause Check words failed a b are fails is = ⊎_elim
+    (λ (on : AreWordsOf Onboard words). let same = same_command words Check Onboard are on in cc)
+    (λ (once : AreWordsOf Once words). let same = same_command words Check Once are once in cc)
+    (fails.asked is)
 
 -- what is known of files
 module _ (whole_unmade : IsWholeOrUnmade) (whole_foreign : IsWholeOrForeign) (headed : IsHeadedOrNot) (no_bad : HasNoBadRecord) where
@@ -386,9 +399,11 @@ module _ (whole_unmade : IsWholeOrUnmade) (whole_foreign : IsWholeOrForeign) (he
   complete_onboard (opened start (onboarding unheard)) words a b m H are sound of at disk door = absurd (door refl)
   complete_onboard (opened start (onboarding (cut_off bytes))) words a b m H are sound of at disk door = absurd (door refl)
   complete_onboard (opened start (onboarding (heard bytes now done))) words a b m H are sound of at disk door =
-      verdict_status (verdict start.history now bytes)
+      verdict_status (verdict start.saved start.history now bytes)
   complete_onboard (opened start (onboarding (heard bytes now breaking))) words a b m H are sound of at disk door = absurd (disk refl)
   complete_onboard (opened start (onboarding (heard bytes now no_memory))) words a b m H are sound of at disk door = inr (inl refl)
+  complete_onboard (opened start counting) words a b m H are sound of at disk door = let it =
+      of_command Onboard words (opened start counting) are of in never_served _ it.0 Onboard Check it.1 it.2 (λ wrong. cc)
 
   -- `once` ends with 0, 6 or 9 from a sound start, unless the disk or the door failed
   complete_once : (tells : Type 0) → tells → (course : Course) (words : List (List ℕ)) (a b : SiteState) (m : ℕ) (H : List Event)
@@ -408,6 +423,23 @@ module _ (whole_unmade : IsWholeOrUnmade) (whole_foreign : IsWholeOrForeign) (he
       (λ n is. good n told is)
   complete_once tells told (opened start (onboarding o)) words a b m H are sound of at disk door good = let it =
       of_command Once words (opened start (onboarding o)) are of in never_served _ it.0 Once Onboard it.1 it.2 (λ wrong. cc)
+  complete_once tells told (opened start counting) words a b m H are sound of at disk door good = let it =
+      of_command Once words (opened start counting) are of in never_served _ it.0 Once Check it.1 it.2 (λ wrong. cc)
+
+  -- `check` ends with 0 or 6 from a sound start, unless the disk failed
+  complete_check : (course : Course) (words : List (List ℕ)) (a b : SiteState) (m : ℕ) (H : List Event) → AreWordsOf Check words
+      → IsSoundStart m H a → IsOfWords words course
+      → AtFile course a b → (ending_of course ≡ Err SiteFault → ⊥) → MayEndWith Check (status_of (ending_of course))
+  complete_check misused words a b m H are sound of at disk = commanded _ words are.settings are.set of
+  complete_check starved words a b m H are sound of at disk = inr refl
+  complete_check (making number result) words a b m H are sound of at disk = let it =
+      of_command Check words (making number result) are of in never_served _ it.0 Check Init it.1 it.2.0 (λ wrong. cc)
+  complete_check (unopened why) words a b m H are sound of at disk = inr (sound_unopened why m H a b sound at disk)
+  complete_check (opened start (serving service)) words a b m H are sound of at disk = let it =
+      of_command Check words (opened start (serving service)) are of in never_served _ it.0 Check Once it.1 it.2.command (λ wrong. cc)
+  complete_check (opened start (onboarding o)) words a b m H are sound of at disk = let it =
+      of_command Check words (opened start (onboarding o)) are of in never_served _ it.0 Check Onboard it.1 it.2 (λ wrong. cc)
+  complete_check (opened start counting) words a b m H are sound of at disk = inl refl
 
   -- from a sound start a command does its work or is refused, unless a call failed or there was no memory
   pub complete_ending : (tells : Type 0) → tells → (command : Command) (course : Course) (words : List (List ℕ)) (a b : SiteState)
@@ -420,3 +452,5 @@ module _ (whole_unmade : IsWholeOrUnmade) (whole_foreign : IsWholeOrForeign) (he
       complete_onboard course words a b start.0 start.1 are start.2 of at disk door
   complete_ending tells told Once course words a b are start of at disk door good =
       complete_once tells told course words a b start.0 start.1 are start.2 of at disk door good
+  complete_ending tells told Check course words a b are start of at disk door good =
+      complete_check course words a b start.0 start.1 are start.2 of at disk

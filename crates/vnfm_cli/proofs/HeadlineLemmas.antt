@@ -1,6 +1,6 @@
 -- What a stop leaves of a run, from what the run does to the site.
 use Rattle.std.proofs.Common.{◌≡◌, ◌∙◌, ◌<◌, ◌⊎◌, ℕ, List, [], ◌∷◌, Result, inl, inr, subst, sym, refl, arith, ⊎_elim}
-use Rattle.command_line.specs.declared.options.Command.TheVariants.{Init, Onboard, Once}
+use Rattle.command_line.specs.declared.options.Command.TheVariants.{Check, Init, Onboard, Once}
 use Rattle.executor.specs.Chain.{AreTold, StaysSince}
 use Rattle.executor.specs.History.{HasHistory, spellings}
 use Rattle.executor.specs.Laws.{HasOneHistory}
@@ -18,8 +18,8 @@ use Rattle.lcm_model.specs.Work.{window}
 use Rattle.site_traits.specs.Jobs.{Advances, Job}
 use Rattle.site_traits.specs.Moments.{goes_on, joined, started, weakened}
 use Rattle.site_traits.specs.Site.{FileStep, HasItsJobs, KeepsJobs, LeavesOnly, Pair, Same, SiteState}
-use Rattle.vnfm_commands.specs.Course.{Course, misused, starved, making, unopened, opened, serving, onboarding, activity_work, told_by}
-use Rattle.vnfm_commands.specs.Course.{told_of, IsOfWords}
+use Rattle.vnfm_commands.specs.Course.{Course, misused, starved, making, unopened, opened, serving, onboarding, counting, activity_work}
+use Rattle.vnfm_commands.specs.Course.{told_by, told_of, IsOfWords}
 use Rattle.vnfm_cli.specs.Headline.{AreStanding, IsFresh, IsFreshPair, IsLeftWith, IsSoundBeginning, IsSoundPair, SoundJobsMakeSoundPairs}
 use Rattle.vnfm_cli.specs.Headline.{StandsSince}
 use Rattle.vnfm_commands.specs.Runs.{AtFile, AtJobs, IsLegalCourse, IsUntouched, Recovers, ToldIn}
@@ -104,8 +104,8 @@ module _ (whole : IsWholeOrUnmade) (once : HasOneHistory) (may_end : JobsMayEnd)
   acknowledged tells told (making number result) before now a b at legal are m H start = are
   acknowledged tells told (unopened why) before now a b at legal are m H start = are
   acknowledged tells told (opened begun activity) before now a b at legal are m H start =
-      let w : Work = activity_work begun.number begun.history activity in
-      let histories : List (List Event) = told_by begun.number begun.history activity in
+      let w : Work = activity_work begun.number begun.saved begun.history activity in
+      let histories : List (List Event) = told_by begun.number begun.saved begun.history activity in
       let it = recovers_it m begun.number H begun.history w a b legal.number at start in
       are_standing tells m H histories before now w a b told start.start.start.number (it.1.sound start.start.start start.sound)
       (subst (λ (k : ℕ). AreTold tells k histories before now a b) (sym it.0) are)
@@ -120,7 +120,7 @@ module _ (whole : IsWholeOrUnmade) (once : HasOneHistory) (may_end : JobsMayEnd)
       reads_leave m H a b start (at.kept (λ unfinished. whole m (spellings H) a.image start.start.start.file.file (number, unfinished))).0
   leaves_sound (unopened why) a b at legal m H start = reads_leave m H a b start at.reads
   leaves_sound (opened begun activity) a b at legal m H start =
-      recovery_leaves m begun.number H begun.history (activity_work begun.number begun.history activity) a b legal.number at start
+      recovery_leaves m begun.number H begun.history (activity_work begun.number begun.saved begun.history activity) a b legal.number at start
 
 -- no job goes on as none
 no_job : (js : List Job) → Advances [] js → js ≡ []
@@ -154,6 +154,8 @@ leaves_fresh (opened start (serving service)) words a b of at jobs m are fresh =
     of_init m words (opened start (serving service)) are of in never_served _ it.0 Init Once it.1 it.3.command (λ wrong. cc)
 leaves_fresh (opened start (onboarding o)) words a b of at jobs m are fresh = let it =
     of_init m words (opened start (onboarding o)) are of in never_served _ it.0 Init Onboard it.1 it.3 (λ wrong. cc)
+leaves_fresh (opened start counting) words a b of at jobs m are fresh = let it = of_init m words (opened start counting) are of in
+    never_served _ it.0 Init Check it.1 it.3 (λ wrong. cc)
 
 -- a life goes on from what a stop left
 pub life_goes_on : JobsMayEnd → (m : ℕ) (H : List Event) (p : Pair) (s : SiteState) → IsSoundPair m H p → IsLeftWith p s

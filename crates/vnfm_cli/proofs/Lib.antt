@@ -1,4 +1,5 @@
 mod AnswerLemmas
+mod CheckLemmas
 mod DeliveryLemmas
 mod DoorLemmas
 mod EndingLemmas

@@ -23,12 +23,12 @@ said_whole (Some reply) (Err failed) bytes is fine = absurd (fine refl)
 said_whole None (Err failed) bytes is fine = absurd is
 
 -- something is told at an end exactly where it has a reply
-replied : (m : ℕ) (H : List Event) (last : Last) → has_reply last ≡ is_some (reply_last m H last)
-replied m H over = refl
-replied m H (unheard cause reply) = refl
-replied m H (untold x) = refl
-replied m H (starving x) = refl
-replied m H (breaking x) = refl
+replied : (m saved : ℕ) (H : List Event) (last : Last) → has_reply last ≡ is_some (reply_last m saved H last)
+replied m saved H over = refl
+replied m saved H (unheard cause reply) = refl
+replied m saved H (untold x) = refl
+replied m saved H (starving x) = refl
+replied m saved H (breaking x) = refl
 
 -- what was lost is counted
 lost_rose : (cut lost : Bool) (a b : DoorCounts) → b ≡ counts_by lost (counts_by cut a) → lost ≡ true → Rose a.faults b.faults
@@ -36,16 +36,16 @@ lost_rose cut false a b is lost = absurd (cc lost)
 lost_rose true true a b is lost = rw is (omega arith)
 lost_rose false true a b is lost = rw is (omega arith)
 
-last_whole : (m : ℕ) (H : List Event) (closing : Option Closing) (a b : DoorCounts) (bytes : List ℕ) → SaysLast m H closing bytes
+last_whole : (m saved : ℕ) (H : List Event) (closing : Option Closing) (a b : DoorCounts) (bytes : List ℕ) → SaysLast m saved H closing bytes
     → b ≡ counts_behind closing a → (Rose a.faults b.faults → ⊥)
-    → bytes ≡ text_last m H closing
-last_whole m H None a b bytes is counts fine = is
-last_whole m H (Some closing) a b bytes is counts fine =
-    said_whole (reply_last m H closing.last) closing.told bytes is
-    (λ lost. fine (lost_rose (is_cut closing.last) (is_lost closing) a b counts (rw (replied m H closing.last) lost)))
+    → bytes ≡ text_last m saved H closing
+last_whole m saved H None a b bytes is counts fine = is
+last_whole m saved H (Some closing) a b bytes is counts fine =
+    said_whole (reply_last m saved H closing.last) closing.told bytes is
+    (λ lost. fine (lost_rose (is_cut closing.last) (is_lost closing) a b counts (rw (replied m saved H closing.last) lost)))
 
 pub whole_answer : (t : WorldTells) → AnswersAreWhole t
-whole_answer t m H came talk a b receives told fine =
+whole_answer t m saved H came talk a b receives told fine =
     let attends = receives.attends in
     let speaks = attends.holds.speaks told in
     let fresh : receives.between.wire.intake.door.conn.out ≡ [] = fresh_out came _ _ (receives.comes told) in
@@ -53,11 +53,11 @@ whole_answer t m H came talk a b receives told fine =
     ap (λ (k : DoorCounts). k.faults) receives.counts in
     let behind : b.mouth.wire.intake.counts.faults ≡ attends.between.wire.intake.counts.faults =
     ap (λ (k : DoorCounts). k.faults) attends.counts in
-    let final = last_whole m (life (once_answered m) H talk.asks) talk.end receives.between.wire.intake.counts
+    let final = last_whole m saved (life (once_answered m saved) H talk.asks) talk.end receives.between.wire.intake.counts
     attends.between.wire.intake.counts speaks.final speaks.final_is attends.holds.faults
     (λ rose. fine (rw (← before, behind) rose)) in
     record {
       out = out_is _ attends.between.wire.intake.door b.mouth.wire.intake.door (attends.gone told) ∙ speaks.door.out
-          ∙ ap (λ (t : List ℕ). t ++ (said (replies m H talk.asks) ++ speaks.final)) fresh
-          ∙ ap (λ (t : List ℕ). said (replies m H talk.asks) ++ t) final;
+          ∙ ap (λ (t : List ℕ). t ++ (said (replies m saved H talk.asks) ++ speaks.final)) fresh
+          ∙ ap (λ (t : List ℕ). said (replies m saved H talk.asks) ++ t) final;
     }

@@ -11,10 +11,11 @@ use Rattle.command_line.specs.Words.{settings_of}
 use Rattle.vnfm_commands.specs.Words.{AreInit, AreLoading, AreWordsOf}
 use Rattle.command_line.specs.declared.options.Command.TheVariants.{Onboard, Once}
 
--- Where this holds of a run of these words a wait for a connection failed, and is counted once, or for `onboard` a read
--- of one; else no wait failed. But for the talks of `once` no other call of the door failed, and one that did is
--- counted once.
+-- Where this holds of a run of these words they are of `onboard` or `once`, and a wait for a connection failed, and is
+-- counted once, or for `onboard` a read of one; else no wait failed. But for the talks of `once` no other call of the
+-- door failed, and one that did is counted once.
 pub record FailsAtDoor (words : List (List ℕ)) (failed : Type 0) (a b : DoorCounts) : Type 0 where
+  pub asked : failed → AreWordsOf Onboard words ⊎ AreWordsOf Once words
   pub rose : failed → (b.next ≡ one_more a.next) ⊎ (AreWordsOf Onboard words × (b.next ≡ a.next))
   pub stays : ¬ failed → b.next ≡ a.next
   pub faults : ¬ (AreWordsOf Once words) → (failed → b.faults ≡ one_more a.faults) × (¬ failed → b.faults ≡ a.faults)

@@ -37,24 +37,24 @@ sent_last now H ps (outbox.stopped s (sent p) why) earlier =
 sent_last now H ps other earlier = earlier
 
 -- the dispatches of these rounds
-abbrev pub sent_in_rounds : ℕ → List Event → List Round → List Sending
-sent_in_rounds m H [] = []
-sent_in_rounds m H (r ∷ before) =
-    sent_behind (moment_of r.turn) (once_acted m (life (once_made m) H before) r.visit r.turn) r.dispatches
-    (sent_in_rounds m H before)
+abbrev pub sent_in_rounds : ℕ → ℕ → List Event → List Round → List Sending
+sent_in_rounds m saved H [] = []
+sent_in_rounds m saved H (r ∷ before) =
+    sent_behind (moment_of r.turn) (once_acted m saved (life (once_made m saved) H before) r.visit r.turn) r.dispatches
+    (sent_in_rounds m saved H before)
 
 -- those at the end of rounds, and behind them the earlier ones
-abbrev pub sent_at_close : ℕ → List Event → Close → List Sending → List Sending
-sent_at_close m H (undelivered visit turn ps end why) earlier =
-    sent_last (moment_of turn) (once_acted m H visit turn) ps end
-    (sent_behind (moment_of turn) (once_acted m H visit turn) ps earlier)
-sent_at_close m H other earlier = earlier
+abbrev pub sent_at_close : ℕ → ℕ → List Event → Close → List Sending → List Sending
+sent_at_close m saved H (undelivered visit turn ps end why) earlier =
+    sent_last (moment_of turn) (once_acted m saved H visit turn) ps end
+    (sent_behind (moment_of turn) (once_acted m saved H visit turn) ps earlier)
+sent_at_close m saved H other earlier = earlier
 
 -- all dispatches of rounds behind this opening, the latest first
 abbrev pub sent_by : Opening → Service → List Sending
 sent_by start service =
-    sent_at_close start.number (life (once_made start.number) start.history service.rounds) service.close
-    (sent_in_rounds start.number start.history service.rounds)
+    sent_at_close start.number start.saved (life (once_made start.number start.saved) start.history service.rounds)
+    service.close (sent_in_rounds start.number start.saved start.history service.rounds)
 
 -- The notice is the first of its subscription that waited: it was neither taken nor refused five times before, and each
 -- earlier notice of the subscription was, so that none is skipped (SOL 003 5.4.20).

@@ -58,20 +58,20 @@ optional_text None = []
 optional_text (Some reply) = text reply
 
 -- what is told at the end of a session
-abbrev pub text_last : ℕ → List Event → Option Closing → List ℕ
-text_last m H None = []
-text_last m H (Some closing) = optional_text (reply_last m H closing.last)
+abbrev pub text_last : ℕ → ℕ → List Event → Option Closing → List ℕ
+text_last m saved H None = []
+text_last m saved H (Some closing) = optional_text (reply_last m saved H closing.last)
 
 -- Where no call of the door failed, the bytes out of a connection that came are the replies to its requests, and what
 -- is told at its end.
-pub record HasWholeAnswer (m : ℕ) (H : List Event) (talk : Talk) (b : Peers) : Type 0 where
-  pub out : b.mouth.wire.intake.door.conn.out ≡ said (replies m H talk.asks)
-      ++ text_last m (life (once_answered m) H talk.asks) talk.end
+pub record HasWholeAnswer (m saved : ℕ) (H : List Event) (talk : Talk) (b : Peers) : Type 0 where
+  pub out : b.mouth.wire.intake.door.conn.out ≡ said (replies m saved H talk.asks)
+      ++ text_last m saved (life (once_answered m saved) H talk.asks) talk.end
 
 abbrev pub AnswersAreWhole : session.WorldTells → Type 0
-AnswersAreWhole t = (m : ℕ) (H : List Event) (came : Role) (talk : Talk) (a b : Peers) → Receives t m H came talk a b
-    → t.door
-    → ¬ (Rose a.mouth.wire.intake.counts.faults b.mouth.wire.intake.counts.faults) → HasWholeAnswer m H talk b
+AnswersAreWhole t = (m saved : ℕ) (H : List Event) (came : Role) (talk : Talk) (a b : Peers)
+    → Receives t m saved H came talk a b → t.door
+    → ¬ (Rose a.mouth.wire.intake.counts.faults b.mouth.wire.intake.counts.faults) → HasWholeAnswer m saved H talk b
 
 -- Whatever a stop leaves of a run that began soundly with history H, the next run begins soundly, with a history from H
 -- on. So what holds of one run from a sound beginning holds of any number of them (own rule).

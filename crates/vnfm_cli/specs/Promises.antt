@@ -1,17 +1,19 @@
 -- What a run promises, over all that it works with and the sink of its line (own rule, docs/FORMATS.md).
-use Rattle.std.specs.Prelude.{◌≡◌, ℕ, List}
+use Rattle.std.specs.Prelude.{◌≡◌, ◌<◌, ◌++◌, ℕ, List}
 use Rattle.command_line.specs.declared.options.Command.{Command}
-use Rattle.command_line.specs.declared.options.Command.TheVariants.{Once}
+use Rattle.command_line.specs.declared.options.Command.TheVariants.{Check, Once}
 use Rattle.lcm_events.specs.declared.events.Event.{Event}
 use Rattle.occ_work.specs.Around.{CountJobsAlike, DiskFails}
 use Rattle.site_traits.specs.Counts.{Rose}
-use Rattle.site_traits.specs.Site.{LeavesOnly}
+use Rattle.executor.specs.History.{HasHistory}
+use Rattle.site_traits.specs.Site.{FileStep, LeavesOnly, Pair, Same, SiteState}
 use Rattle.vnfm_cli.specs.Causes.{HasCauses}
 use Rattle.vnfm_cli.specs.Headline.{AreStanding, IsFresh, IsFreshPair, IsSoundBeginning, IsSoundPair}
 use Rattle.vnfm_commands.specs.Course.{Course, ending_of, told_of}
-use Rattle.vnfm_commands.specs.Ending.{Ends, Output}
+use Rattle.vnfm_commands.specs.Ending.{Ends, Output, totals_line}
 use Rattle.vnfm_commands.specs.Outside.{Outside, Tells}
 use Rattle.vnfm_commands.specs.Runs.{IsDoorCause, IsStartOf, MayEndWith, Runs}
+use Rattle.vnfm_commands.specs.Totals.{totals_of}
 use Rattle.vnfm_commands.specs.Words.{AreInit, AreWordsOf}
 
 -- all that a run works with, and the sink of its line
@@ -35,6 +37,29 @@ abbrev pub StaysFresh : List (List ℕ) → Ground → Ground → Type 0
 StaysFresh words a b = (m : ℕ) → AreInit m words → IsFresh m a.outside.site
     → LeavesOnly (IsFreshPair m) a.outside.site b.outside.site
 
+-- a stop before might have left this file, beside these jobs, of which running ones may have ended by themselves since
+pub record MightBeLeft (a : SiteState) (p : Pair) : Type 0 where
+  pub before : Pair
+  pub was : a.since a.moment before
+  pub step : FileStep Same before p
+
+-- The file and the jobs of a site were left alone: a read gives what it gave, no call on jobs was answered, and a stop
+-- leaves, whenever it comes, what one before might have left.
+pub record IsLeftAlone (a b : SiteState) : Type 0 where
+  pub image : b.image ≡ a.image
+  pub answers : b.answers ≡ a.answers
+  pub left : LeavesOnly (MightBeLeft a) a b
+
+-- `check` changes nothing
+abbrev pub ChangesNothing : List (List ℕ) → Ground → Ground → Type 0
+ChangesNothing words a b = AreWordsOf Check words → IsLeftAlone a.outside.site b.outside.site
+
+-- where `check` ends with 0, its line has the totals of the file's history
+abbrev pub TellsTotals : List (List ℕ) → ℕ → Ground → Ground → Type 0
+TellsTotals words status a b =
+    AreWordsOf Check words → status ≡ 0 → (m : ℕ) (H : List Event) → m < 4294967296
+    → HasHistory m H a.outside.site.image → b.lines.bytes ≡ a.lines.bytes ++ totals_line (totals_of H)
+
 -- a command ends with one of its statuses from a sound start where no call of the disk, of the door or of the sink
 -- failed
 abbrev pub IsComplete : List (List ℕ) → ℕ → Ground → Ground → Type 0
@@ -47,7 +72,7 @@ IsComplete words status a b =
 
 -- One run of these words went so, and ended with this status, of which its line tells. Where the site tells, a stop
 -- leaves, whenever it comes, what the headline says: of a sound beginning sound pairs, which hold all that was
--- acknowledged before it, and of a fresh site of `init` fresh ones.
+-- acknowledged before it, and of a fresh site of `init` fresh ones. `check` changes nothing, and tells what there is.
 pub record Promises (t : Tells) (lines : Type 0) (words : List (List ℕ)) (status : ℕ) (a b : Ground) : Type 0 where
   pub course : Course
   pub runs : Runs t words course a.outside b.outside
@@ -55,6 +80,8 @@ pub record Promises (t : Tells) (lines : Type 0) (words : List (List ℕ)) (stat
   pub headline : t.site → StaysSound a b
   pub acknowledged : t.site → Acknowledges course a b
   pub beginning : t.site → StaysFresh words a b
+  pub unchanged : t.site → ChangesNothing words a b
+  pub totals : t.site → lines → TellsTotals words status a b
   pub disk : DiskFails (status ≡ 3) a.outside.counts b.outside.counts
   pub untouched_jobs : ¬ (AreWordsOf Once words) → CountJobsAlike a.outside.counts b.outside.counts
   pub causes : HasCauses t.site words status a.outside b.outside a.lines b.lines

@@ -1,6 +1,6 @@
 //! The top call: one command over the objects that it is handed.
 ghost use Rattle.std.specs.Prelude.{◌≡◌};
-ghost use Rattle.command_line.specs.declared.options.Command.TheVariants.{Once};
+ghost use Rattle.command_line.specs.declared.options.Command.TheVariants.{Check, Once};
 ghost use Rattle.vnfm_cli.specs.Promises.{Promises};
 ghost use Rattle.vnfm_commands.specs.Ending.{output_of};
 ghost use Rattle.vnfm_commands.specs.Outside.{outside, telling};
@@ -31,6 +31,8 @@ use vnfm_commands::{finish, obey};
 ///   occurrence on by what was answered. Then, at the moment of the turn, it makes one delivery, in the order of their
 ///   numbers, for each live subscription: the courier posts the first notice that waits, and what became of it is
 ///   recorded. Rounds go on where nobody comes any more.
+/// - `check --journal PATH` opens the journal and counts its records, the instances and the subscriptions that aren't
+///   deleted, and the operations that go on. It changes nothing, and asks neither the door nor the clock.
 ///
 /// From a sound beginning a stop leaves, whenever it comes, a journal with all that it had and jobs that are sound with
 /// it: each change stands at most once, and none ungranted. From the moment at which a reply was told on, whenever a
@@ -40,14 +42,14 @@ use vnfm_commands::{finish, obey};
 /// used by nothing.
 /// Statuses: 0 the command did its work; 2 the words are no command; 3 exactly where a disk call failed, in an act or a
 /// delivery too, after which no other is made; 4 exactly where waiting for a connection failed, or a read of a
-/// descriptor; 5 the file is no journal; 6 there is no memory; 7 the line of status 0 couldn't be put; 8 a record is
-/// bad, which is found out at the opening where the site tells its content, and else perhaps where a delivery reads it
-/// back; 9 the journal has no room for the descriptor, or for an event of an act or a delivery; 10 the descriptor is
-/// refused; 11 the file isn't unfinished for the manager of `init`. After 2, 5, 10, 11, and 8 at the opening, the file
-/// is as it was; after 4, 6, 9, and 8 in a delivery, too, but that what `once` acknowledged, and what its acts and
-/// deliveries recorded, stand. A call of the orchestrator, the infrastructure or the courier that failed gives no
-/// status: a later turn or delivery goes on from it. Source: SOL 003 clause 5; words, statuses and lines are an own
-/// rule, docs/FORMATS.md.
+/// descriptor, so never after `init` or `check`; 5 the file is no journal; 6 there is no memory; 7 the line of status 0
+/// couldn't be put; 8 a record is bad, which is found out at the opening where the site tells its content, and else
+/// perhaps where a delivery reads it back; 9 the journal has no room for the descriptor, or for an event of an act or a
+/// delivery; 10 the descriptor is refused; 11 the file isn't unfinished for the manager of `init`. After 2, 5, 10, 11,
+/// and 8 at the opening, the file is as it was; after 4, 6, 9, and 8 in a delivery, too, but that what `once`
+/// acknowledged, and what its acts and deliveries recorded, stand. A call of the orchestrator, the infrastructure or the
+/// courier that failed gives no status: a later turn or delivery goes on from it. Source: SOL 003 clause 5; words,
+/// statuses and lines are an own rule, docs/FORMATS.md.
 pub fn run<S: Site, D: Door, O: Orchestrator, C: Courier, K: Clock, W: Sink>(
     alloc: Global,
     words: &[Text],
@@ -70,6 +72,8 @@ pub fn run<S: Site, D: Door, O: Orchestrator, C: Courier, K: Clock, W: Sink>(
         }) }
     ensures unasked { ¬ (AreWordsOf Once words.now) → orchestrator.new ≡ orchestrator.old }
     ensures unposted { ¬ (AreWordsOf Once words.now) → courier.new ≡ courier.old }
+    ensures unheard { AreWordsOf Check words.now → mouth.new ≡ mouth.old }
+    ensures untimed { AreWordsOf Check words.now → clock.new ≡ clock.old }
 {
     files_are_one_thing();
     a_legal_history_has_no_bad_record();

@@ -2,3 +2,4 @@ pub mod DiskLemmas
 mod RoundLemmas
 mod RunLemmas
 pub mod ToldLemmas
+mod TotalLemmas

@@ -1,11 +1,11 @@
 -- Opening a journal, and what is then done with it.
-use Rattle.std.proofs.Common.{◌≡◌, ◌<◌, ℕ, List, Some, ap, refl, subst}
+use Rattle.std.proofs.Common.{◌≡◌, ◌∙◌, ◌<◌, ◌+◌, ℕ, List, Some, ap, refl, subst, sym}
 use Rattle.executor.proofs.ChainLemmas.{told_since}
 use Rattle.executor.specs.Chain.{AreTold}
 use Rattle.executor.specs.History.{HasHistory}
 use Rattle.executor.specs.Managed.{Managed, IsReady}
 use Rattle.executor.specs.Open.{Refuses}
-use Rattle.executor.specs.Work.{Follows, LeavesJobs, Stays, Work, WorksAreWithJobs, WorksWithJobs, stood}
+use Rattle.executor.specs.Work.{Follows, LeavesJobs, Stays, Work, WorksAreWithJobs, WorksWithJobs, stood, went}
 use Rattle.executor.specs.declared.manager.OpenFault.{OpenFault}
 use Rattle.journal_core.specs.Load.{SyncsAndReads}
 use Rattle.lcm_mouth.specs.World.{Peers}
@@ -15,18 +15,19 @@ use Rattle.lcm_mouth.specs.Mouth.{MouthState}
 use Rattle.site_traits.specs.Counts.{CallCounts, OnlyDiskFails, SiteCounts}
 use Rattle.site_traits.specs.Peers.{OrchestratorState, Post}
 use Rattle.site_traits.specs.Site.{KeepsJobs, SiteState}
-use Rattle.vnfm_commands.specs.Course.{Course, misused, starved, making, opened, unopened, Activity, serving, onboarding, IsOf, IsOfWords}
+use Rattle.vnfm_commands.specs.Course.{Course, misused, starved, making, opened, unopened, Activity, serving, onboarding, counting, IsOf, IsOfWords}
 use Rattle.vnfm_commands.specs.Course.{Opening, activity_work, told_by}
 use Rattle.command_line.specs.Words.{settings_of}
+use Rattle.command_line.specs.declared.options.Command.{Command}
 use Rattle.command_line.specs.declared.options.Settings.{Settings}
 use Rattle.vnfm_commands.specs.Outside.{Outside, Tells, beside, outside}
 use Rattle.vnfm_commands.proofs.RoundLemmas.{asks_nobody}
 use Rattle.vnfm_commands.specs.Rounds.{Rests}
-use Rattle.vnfm_commands.specs.Runs.{AtJobsBy, ActivityWorks, Pursues, Does, Recovers}
+use Rattle.vnfm_commands.specs.Runs.{AtCountBy, AtJobsBy, ActivityWorks, Pursues, Does, Recovers, Saves}
 
 -- what was opened
 abbrev pub opening_of : Managed → List Event → Opening
-opening_of m H = record { number = m.ledger.manager; history = H }
+opening_of m H = record { number = m.ledger.manager; saved = m.ledger.saved; history = H }
 
 -- opening the journal, and then work on it
 recovers : (tells : Type 0) (m n : Managed) (H : List Event) (w : Work) (a b e : SiteState) → Stays b → Stays e → Follows tells a b e
@@ -48,19 +49,29 @@ recovers tells m n H w a b e before behind follows told reads ready works =
       };
     }
 
+-- what the journal saves is what its file does
+saves_as : (tells : Type 0) (m : Managed) (H : List Event) (a b : SiteState) → tells → SyncsAndReads a b → IsReady tells m H b
+    → Saves m.ledger.saved a.image
+saves_as tells m H a b told reads ready =
+    let stands = (ready.stands told).journal in
+    let P : List ℕ → Type 0 = λ v. Saves m.ledger.saved v in
+    subst P reads.same (ap (λ v. v + m.ledger.saved) (sym stands.end) ∙ stands.saved)
+
 -- an activity's work is one with jobs
-activity_works : (tells : Type 0) (m : ℕ) (H : List Event) (activity : Activity) (n : Managed) (a b : SiteState)
-    → WorksAreWithJobs tells a b → ActivityWorks tells m H activity n a b
-    → WorksWithJobs tells m H (activity_work m H activity) n a b
-activity_works tells m H (serving service) n a b alone works = works
-activity_works tells m H (onboarding o) n a b alone works = alone m H (onboarding_work H o) n works
+activity_works : (tells : Type 0) (m saved : ℕ) (H : List Event) (activity : Activity) (n : Managed) (a b : SiteState)
+    → WorksAreWithJobs tells a b → ActivityWorks tells m saved H activity n a b
+    → WorksWithJobs tells m H (activity_work m saved H activity) n a b
+activity_works tells m saved H (serving service) n a b alone works = works
+activity_works tells m saved H (onboarding o) n a b alone works = alone m H (onboarding_work saved H o) n works
+activity_works tells m saved H counting n a b alone works = alone m H (went H) n works
 
 -- an activity behind the opening of its journal does this to the jobs
-activity_jobs : (tells : Type 0) (m : ℕ) (H : List Event) (activity : Activity) (n : Managed) (a b e : SiteState) → LeavesJobs tells a b e
-    → tells → SyncsAndReads a b → ActivityWorks tells m H activity n b e
+activity_jobs : (tells : Type 0) (m saved : ℕ) (H : List Event) (activity : Activity) (n : Managed) (a b e : SiteState) → LeavesJobs tells a b e
+    → tells → SyncsAndReads a b → ActivityWorks tells m saved H activity n b e
     → AtJobsBy activity a e
-activity_jobs tells m H (serving service) n a b e leaves told reads works = tt
-activity_jobs tells m H (onboarding o) n a b e leaves told reads works = (leaves told reads).1 m H (onboarding_work H o) n works
+activity_jobs tells m saved H (serving service) n a b e leaves told reads works = tt
+activity_jobs tells m saved H (onboarding o) n a b e leaves told reads works = (leaves told reads).1 m H (onboarding_work saved H o) n works
+activity_jobs tells m saved H counting n a b e leaves told reads works = (leaves told reads).1 m H (went H) n works
 
 -- opening a journal does nothing beside its file
 pub rests_opened : (t : Tells) (failed : Type 0) (a b : SiteState) (i j : SiteCounts) (mouth : MouthState) (o : OrchestratorState)
@@ -76,17 +87,19 @@ pub does_activity : (t : Tells) (m n : Managed) (H : List Event) (activity : Act
     → Follows t.site w.site u.site v.site
     → LeavesJobs t.site w.site u.site v.site → WorksAreWithJobs t.site u.site v.site → m.ledger.manager < 4294967296
     → (t.site → SyncsAndReads w.site u.site)
-    → IsReady t.site m H u.site → Pursues t m.ledger.manager H activity n u v → Rests t (beside w) (beside u)
-    → Does t (opened (opening_of m H) activity) w v
-does_activity t m n H activity w u v before behind follows leaves alone number reads ready pursues rests =
-    let works : WorksWithJobs t.site m.ledger.manager H (activity_work m.ledger.manager H activity) n u.site v.site =
-    activity_works t.site m.ledger.manager H activity n u.site v.site alone pursues.works in
-    let histories : List (List Event) = told_by m.ledger.manager H activity in
+    → IsReady t.site m H u.site → Pursues t m.ledger.manager m.ledger.saved H activity n u v → Rests t (beside w) (beside u)
+    → (t.site → AtCountBy activity w.site v.site) → Does t (opened (opening_of m H) activity) w v
+does_activity t m n H activity w u v before behind follows leaves alone number reads ready pursues rests counted =
+    let works : WorksWithJobs t.site m.ledger.manager H (activity_work m.ledger.manager m.ledger.saved H activity) n u.site v.site =
+    activity_works t.site m.ledger.manager m.ledger.saved H activity n u.site v.site alone pursues.works in
+    let histories : List (List Event) = told_by m.ledger.manager m.ledger.saved H activity in
     record {
       legal = record { number = number; before = ready.keeps.kept.legal; grows = works.at_file.grows };
-      site = λ told. recovers t.site m n H (activity_work m.ledger.manager H activity) w.site u.site v.site before behind follows told
+      site = λ told. recovers t.site m n H (activity_work m.ledger.manager m.ledger.saved H activity) w.site u.site v.site before behind follows told
           (reads told) ready works;
-      jobs = λ told. activity_jobs t.site m.ledger.manager H activity n w.site u.site v.site leaves told (reads told) pursues.works;
+      saved = λ told. saves_as t.site m H w.site u.site told (reads told) ready;
+      jobs = λ told. activity_jobs t.site m.ledger.manager m.ledger.saved H activity n w.site u.site v.site leaves told (reads told) pursues.works;
+      counted = counted;
       beside = (beside u, rests, pursues.does);
       told = told_since t.site m.ledger.manager histories w.mouth.told v.mouth.told w.site u.site v.site
           (λ told. (reads told).on_file.passes.later)
@@ -101,10 +114,19 @@ pub does_not_open : (t : Tells) (why : OpenFault) (w v : Outside) → LeavesJobs
 does_not_open t why w v leaves reads found rests = record {
   legal = tt;
   site = λ told. record { because = subst (Refuses why) (reads told).same (found told); reads = reads told };
+  saved = λ told. tt;
   jobs = λ told. (leaves told (reads told)).0;
+  counted = λ told. tt;
   beside = rests;
   told = ap (λ (p : Peers). p.mouth.told) rests.peers;
 }
+
+-- the command of what words set is the one that they are of
+pub command_is : (words : List (List ℕ)) (s t : Settings) (command : Command) → settings_of words ≡ Some s → settings_of words ≡ Some t
+    → t.command ≡ command → s.command ≡ command
+command_is words s t command set other is = ap (λ (o : Settings). o.command) (some_is s t (sym set ∙ other)) ∙ is where
+  some_is : (s t : Settings) → Some s ≡ Some t → s ≡ t
+  some_is s t same = cc
 
 -- a course of settings is one of the words that set them
 pub of_words : (words : List (List ℕ)) (s : Settings) (course : Course) → settings_of words ≡ Some s → IsOf s course

@@ -33,50 +33,50 @@ within_both H [] ys first second = second
 within_both H (x ∷ xs) ys first second = (first.0, within_both H xs ys first.1 second)
 
 -- requests add to a history
-answers_extend : (m : ℕ) (H : List Event) (asks : List Ask) → Extends H (life (once_answered m) H asks)
-answers_extend m H [] = extends_refl H
-answers_extend m H (x ∷ asks) =
-    let G : List Event = life (once_answered m) H asks in
-    extends_trans H G (once_answered m G x) (answers_extend m H asks) (record { more = (outcome_of m G x).after; is = refl })
+answers_extend : (m saved : ℕ) (H : List Event) (asks : List Ask) → Extends H (life (once_answered m saved) H asks)
+answers_extend m saved H [] = extends_refl H
+answers_extend m saved H (x ∷ asks) =
+    let G : List Event = life (once_answered m saved) H asks in
+    extends_trans H G (once_answered m saved G x) (answers_extend m saved H asks) (record { more = (outcome_of m saved G x).after; is = refl })
 
 -- and so does the end of a session
-last_extends : (m : ℕ) (G : List Event) (last : Last) → Extends G (stood (work_last m G last))
-last_extends m G over = extends_refl G
-last_extends m G (unheard cause reply) = extends_refl G
-last_extends m G (untold x) = record { more = (outcome_of m G x).after; is = refl }
-last_extends m G (starving x) = extends_refl G
-last_extends m G (breaking x) = extends_refl G
+last_extends : (m saved : ℕ) (G : List Event) (last : Last) → Extends G (stood (work_last m saved G last))
+last_extends m saved G over = extends_refl G
+last_extends m saved G (unheard cause reply) = extends_refl G
+last_extends m saved G (untold x) = record { more = (outcome_of m saved G x).after; is = refl }
+last_extends m saved G (starving x) = extends_refl G
+last_extends m saved G (breaking x) = extends_refl G
 
-end_extends : (m : ℕ) (G : List Event) (end : Option Closing) → Extends G (stood (work_by m G end))
-end_extends m G None = extends_refl G
-end_extends m G (Some end) = last_extends m G end.last
+end_extends : (m saved : ℕ) (G : List Event) (end : Option Closing) → Extends G (stood (work_by m saved G end))
+end_extends m saved G None = extends_refl G
+end_extends m saved G (Some end) = last_extends m saved G end.last
 
 told_or_not : (G : List Event) (some : Bool) → AreWithin G (if some then G ∷ [] else [])
 told_or_not G true = (extends_refl G, tt)
 told_or_not G false = tt
 
-last_within : (m : ℕ) (G : List Event) (end : Option Closing) → AreWithin (stood (work_by m G end)) (behind_last m G end)
-last_within m G None = tt
-last_within m G (Some end) = told_or_not (stood (work_last m G end.last)) (has_reply end.last)
+last_within : (m saved : ℕ) (G : List Event) (end : Option Closing) → AreWithin (stood (work_by m saved G end)) (behind_last m saved G end)
+last_within m saved G None = tt
+last_within m saved G (Some end) = told_or_not (stood (work_last m saved G end.last)) (has_reply end.last)
 
 -- what is told in a session is within what it leaves
-talk_within : (m : ℕ) (H : List Event) (talk : Talk) → AreWithin (stood (work_of m H talk)) (behind_told m H talk)
-talk_within m H talk =
-    let G : List Event = life (once_answered m) H talk.asks in
-    let K : List Event = stood (work_by m G talk.end) in
-    within_both K (behind_last m G talk.end) (behind_replies m H talk.asks) (last_within m G talk.end)
-    (within_more G K (behind_replies m H talk.asks) (end_extends m G talk.end) (answered_within m H talk.asks))
+talk_within : (m saved : ℕ) (H : List Event) (talk : Talk) → AreWithin (stood (work_of m saved H talk)) (behind_told m saved H talk)
+talk_within m saved H talk =
+    let G : List Event = life (once_answered m saved) H talk.asks in
+    let K : List Event = stood (work_by m saved G talk.end) in
+    within_both K (behind_last m saved G talk.end) (behind_replies m saved H talk.asks) (last_within m saved G talk.end)
+    (within_more G K (behind_replies m saved H talk.asks) (end_extends m saved G talk.end) (answered_within m saved H talk.asks))
 
 -- the same of a visit
-pub visit_within : (m : ℕ) (H : List Event) (visit : Visit) → AreWithin (once_served m H visit) (told_in_visit m H visit)
-visit_within m H unasked = tt
-visit_within m H (served came talk) = talk_within m H talk
+pub visit_within : (m saved : ℕ) (H : List Event) (visit : Visit) → AreWithin (once_served m saved H visit) (told_in_visit m saved H visit)
+visit_within m saved H unasked = tt
+visit_within m saved H (served came talk) = talk_within m saved H talk
 
-visit_extends : (m : ℕ) (H : List Event) (visit : Visit) → Extends H (once_served m H visit)
-visit_extends m H unasked = extends_refl H
-visit_extends m H (served came talk) =
-    let G : List Event = life (once_answered m) H talk.asks in
-    extends_trans H G (stood (work_by m G talk.end)) (answers_extend m H talk.asks) (end_extends m G talk.end)
+visit_extends : (m saved : ℕ) (H : List Event) (visit : Visit) → Extends H (once_served m saved H visit)
+visit_extends m saved H unasked = extends_refl H
+visit_extends m saved H (served came talk) =
+    let G : List Event = life (once_answered m saved) H talk.asks in
+    extends_trans H G (stood (work_by m saved G talk.end)) (answers_extend m saved H talk.asks) (end_extends m saved G talk.end)
 
 -- events add to a history
 events_extend : (now : ℕ) (kinds : List EventKind) (H : List Event) → Extends H (with_events now kinds H)
@@ -102,56 +102,56 @@ posts_extend now H (p ∷ before) =
     (record { more = posted_event now p.subscription p.place (taken_by p.answer) ∷ []; is = refl })
 
 -- a visit and the acts behind it add to a history
-pub acted_extends : (m : ℕ) (H : List Event) (visit : Visit) (turn : Turning) → Extends H (once_acted m H visit turn)
-acted_extends m H visit turn =
-    let G : List Event = once_served m H visit in
-    extends_trans H G (once_acted m H visit turn) (visit_extends m H visit) (acts_extend (moment_of turn) G turn.acts)
+pub acted_extends : (m saved : ℕ) (H : List Event) (visit : Visit) (turn : Turning) → Extends H (once_acted m saved H visit turn)
+acted_extends m saved H visit turn =
+    let G : List Event = once_served m saved H visit in
+    extends_trans H G (once_acted m saved H visit turn) (visit_extends m saved H visit) (acts_extend (moment_of turn) G turn.acts)
 
 -- what is told in a visit is within what the acts behind it leave
-pub acted_within : (m : ℕ) (H : List Event) (visit : Visit) (turn : Turning) → AreWithin (once_acted m H visit turn)
-    (told_in_visit m H visit)
-acted_within m H visit turn =
-    let G : List Event = once_served m H visit in
-    within_more G (once_acted m H visit turn) (told_in_visit m H visit) (acts_extend (moment_of turn) G turn.acts) (visit_within m H visit)
+pub acted_within : (m saved : ℕ) (H : List Event) (visit : Visit) (turn : Turning) → AreWithin (once_acted m saved H visit turn)
+    (told_in_visit m saved H visit)
+acted_within m saved H visit turn =
+    let G : List Event = once_served m saved H visit in
+    within_more G (once_acted m saved H visit turn) (told_in_visit m saved H visit) (acts_extend (moment_of turn) G turn.acts) (visit_within m saved H visit)
 
 -- what is told in a round is within what it leaves
-round_within : (m : ℕ) (H : List Event) (r : Round) → AreWithin (once_made m H r) (told_in_visit m H r.visit)
-round_within m H r =
-    let K : List Event = once_acted m H r.visit r.turn in
-    within_more K (once_made m H r) (told_in_visit m H r.visit) (posts_extend (moment_of r.turn) K r.dispatches)
-    (acted_within m H r.visit r.turn)
+round_within : (m saved : ℕ) (H : List Event) (r : Round) → AreWithin (once_made m saved H r) (told_in_visit m saved H r.visit)
+round_within m saved H r =
+    let K : List Event = once_acted m saved H r.visit r.turn in
+    within_more K (once_made m saved H r) (told_in_visit m saved H r.visit) (posts_extend (moment_of r.turn) K r.dispatches)
+    (acted_within m saved H r.visit r.turn)
 
-pub round_extends : (m : ℕ) (H : List Event) (r : Round) → Extends H (once_made m H r)
-round_extends m H r =
-    let K : List Event = once_acted m H r.visit r.turn in
-    extends_trans H K (once_made m H r) (acted_extends m H r.visit r.turn) (posts_extend (moment_of r.turn) K r.dispatches)
+pub round_extends : (m saved : ℕ) (H : List Event) (r : Round) → Extends H (once_made m saved H r)
+round_extends m saved H r =
+    let K : List Event = once_acted m saved H r.visit r.turn in
+    extends_trans H K (once_made m saved H r) (acted_extends m saved H r.visit r.turn) (posts_extend (moment_of r.turn) K r.dispatches)
 
 -- the same of rounds
-pub rounds_within : (m : ℕ) (H : List Event) (rounds : List Round) → AreWithin (life (once_made m) H rounds) (told_in_rounds m H rounds)
-rounds_within m H [] = tt
-rounds_within m H (r ∷ before) =
-    let G : List Event = life (once_made m) H before in
-    within_both (once_made m G r) (told_in_visit m G r.visit) (told_in_rounds m H before) (round_within m G r)
-    (within_more G (once_made m G r) (told_in_rounds m H before) (round_extends m G r) (rounds_within m H before))
+pub rounds_within : (m saved : ℕ) (H : List Event) (rounds : List Round) → AreWithin (life (once_made m saved) H rounds) (told_in_rounds m saved H rounds)
+rounds_within m saved H [] = tt
+rounds_within m saved H (r ∷ before) =
+    let G : List Event = life (once_made m saved) H before in
+    within_both (once_made m saved G r) (told_in_visit m saved G r.visit) (told_in_rounds m saved H before) (round_within m saved G r)
+    (within_more G (once_made m saved G r) (told_in_rounds m saved H before) (round_extends m saved G r) (rounds_within m saved H before))
 
 -- what the end of a session aims at begins with what it has
-last_aims : (m : ℕ) (G : List Event) (last : Last) → Extends G (aimed (work_last m G last))
-last_aims m G over = extends_refl G
-last_aims m G (unheard cause reply) = extends_refl G
-last_aims m G (untold x) = record { more = (outcome_of m G x).after; is = refl }
-last_aims m G (starving x) = extends_refl G
-last_aims m G (breaking x) = record { more = (outcome_of m G x).after; is = refl }
+last_aims : (m saved : ℕ) (G : List Event) (last : Last) → Extends G (aimed (work_last m saved G last))
+last_aims m saved G over = extends_refl G
+last_aims m saved G (unheard cause reply) = extends_refl G
+last_aims m saved G (untold x) = record { more = (outcome_of m saved G x).after; is = refl }
+last_aims m saved G (starving x) = extends_refl G
+last_aims m saved G (breaking x) = record { more = (outcome_of m saved G x).after; is = refl }
 
-talk_aims : (m : ℕ) (H : List Event) (talk : Talk) → Extends H (aimed (work_of m H talk))
-talk_aims m H talk = by talk.end
+talk_aims : (m saved : ℕ) (H : List Event) (talk : Talk) → Extends H (aimed (work_of m saved H talk))
+talk_aims m saved H talk = by talk.end
   where
     G : List Event
-    G = life (once_answered m) H talk.asks
+    G = life (once_answered m saved) H talk.asks
 
-    by : (end : Option Closing) → Extends H (aimed (work_by m G end))
-    by None = answers_extend m H talk.asks
+    by : (end : Option Closing) → Extends H (aimed (work_by m saved G end))
+    by None = answers_extend m saved H talk.asks
     by (Some closing) =
-        extends_trans H G (aimed (work_last m G closing.last)) (answers_extend m H talk.asks) (last_aims m G closing.last)
+        extends_trans H G (aimed (work_last m saved G closing.last)) (answers_extend m saved H talk.asks) (last_aims m saved G closing.last)
 
 -- and so does that of a turn
 act_aims : (now : ℕ) (kinds : List EventKind) (H : List Event) (why : WorkFault) → Extends H (aimed (recording now kinds H (Err why)))
@@ -180,16 +180,16 @@ posts_aim now H (outbox.stopped s (sent p) why) =
     record { more = posted_event now p.subscription p.place (taken_by p.answer) ∷ []; is = refl }
 
 -- and so does that of the end of rounds
-pub close_aims : (m : ℕ) (H : List Event) (close : Close) → Extends H (aimed (close_work m H close))
-close_aims m H finished = extends_refl H
-close_aims m H unreached = extends_refl H
-close_aims m H (stopped came talk) = talk_aims m H talk
-close_aims m H (halted visit turn end why) =
-    let K : List Event = once_acted m H visit turn in
-    extends_trans H K (aimed (turning.end_work (moment_of turn) K end)) (acted_extends m H visit turn) (turn_aims (moment_of turn) K end)
-close_aims m H (undelivered visit turn ps end why) =
-    let K : List Event = once_acted m H visit turn in
+pub close_aims : (m saved : ℕ) (H : List Event) (close : Close) → Extends H (aimed (close_work m saved H close))
+close_aims m saved H finished = extends_refl H
+close_aims m saved H unreached = extends_refl H
+close_aims m saved H (stopped came talk) = talk_aims m saved H talk
+close_aims m saved H (halted visit turn end why) =
+    let K : List Event = once_acted m saved H visit turn in
+    extends_trans H K (aimed (turning.end_work (moment_of turn) K end)) (acted_extends m saved H visit turn) (turn_aims (moment_of turn) K end)
+close_aims m saved H (undelivered visit turn ps end why) =
+    let K : List Event = once_acted m saved H visit turn in
     let L : List Event = once_posted turn K ps in
     extends_trans H L (aimed (outbox.end_work (moment_of turn) L end))
-    (extends_trans H K L (acted_extends m H visit turn) (posts_extend (moment_of turn) K ps))
+    (extends_trans H K L (acted_extends m saved H visit turn) (posts_extend (moment_of turn) K ps))
     (posts_aim (moment_of turn) L end)

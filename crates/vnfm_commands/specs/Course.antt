@@ -22,15 +22,16 @@ use Rattle.lcm_sessions.specs.declared.answer.OnboardFault.{OnboardFault}
 use Rattle.lcm_sessions.specs.declared.answer.OnboardFault.TheVariants as fault
 use Rattle.vnfm_commands.specs.Ending.{Ending}
 use Rattle.command_line.specs.Words.{settings_of}
+use Rattle.vnfm_commands.specs.Totals.{totals_of}
 use Rattle.vnfm_commands.specs.Words.{IsCommand, loads}
 use Rattle.vnfm_commands.specs.declared.ending.Failure.{Failure}
 use Rattle.vnfm_commands.specs.declared.ending.Failure.TheVariants.{Usage, SiteFault, DoorFault, NoJournal, NotAJournal}
 use Rattle.vnfm_commands.specs.declared.ending.Failure.TheVariants.{NoMemory, BadRecord, JournalFull, DescriptorRefused}
 use Rattle.vnfm_commands.specs.declared.ending.Failure.TheVariants.{Taken}
-use Rattle.vnfm_commands.specs.declared.ending.Report.TheVariants.{Done, Made, Onboarded}
+use Rattle.vnfm_commands.specs.declared.ending.Report.TheVariants.{Counted, Done, Made, Onboarded}
 use Rattle.vnfm_commands.specs.declared.rounds.ServedRole.{ServedRole}
 use Rattle.vnfm_commands.specs.declared.rounds.ServedRole.TheVariants.{Stated, ByDoor}
-use Rattle.command_line.specs.declared.options.Command.TheVariants.{Init, Onboard, Once}
+use Rattle.command_line.specs.declared.options.Command.TheVariants.{Check, Init, Onboard, Once}
 use Rattle.command_line.specs.declared.options.Settings.{Settings}
 use Rattle.command_line.specs.declared.options.SettingsFault.{SettingsFault}
 use Rattle.command_line.specs.declared.options.SettingsFault.TheVariants as setting
@@ -81,14 +82,18 @@ pub record Service : Type 0 where
   pub rounds : List Round
   pub close : Close
 
--- what was done with a journal that was opened
+-- what was done with a journal that was opened: rounds were made, a descriptor was onboarded or not, or what it has was
+-- counted
 pub data Activity : Type 0 where
   serving : Service → Activity
   onboarding : Onboarding → Activity
+  counting : Activity
 
--- the manager's number and the history that its journal had when it was opened, the latest event first
+-- the manager's number, how many bytes its journal saves, and the history that it had when it was opened, the latest
+-- event first
 pub record Opening : Type 0 where
   pub number : ℕ
+  pub saved : ℕ
   pub history : List Event
 
 -- How a run went: the words were no command, there was no memory for what they set, a journal was to be made for this
@@ -99,68 +104,72 @@ pub data Course : Type 0 where
   unopened : OpenFault → Course
   opened : Opening → Activity → Course
 
--- the history once a visit was served
-abbrev pub once_served : ℕ → List Event → Visit → List Event
-once_served m H unasked = H
-once_served m H (served came talk) = stood (work_of m H talk)
+-- the history once a visit was served, behind history H of manager m, whose journal saves so many bytes
+abbrev pub once_served : ℕ → ℕ → List Event → Visit → List Event
+once_served m saved H unasked = H
+once_served m saved H (served came talk) = stood (work_of m saved H talk)
 
 -- the moment of a turn: that of the clock's value, which is the last of the year 9999 at most
 abbrev pub moment_of : Turning → ℕ
 moment_of turn = min turn.value 253402300799999
 
 -- the history once a visit was served, and then these acts were made
-abbrev pub once_acted : ℕ → List Event → Visit → Turning → List Event
-once_acted m H visit turn = once_all_done (moment_of turn) (once_served m H visit) turn.acts
+abbrev pub once_acted : ℕ → ℕ → List Event → Visit → Turning → List Event
+once_acted m saved H visit turn = once_all_done (moment_of turn) (once_served m saved H visit) turn.acts
 
 -- the history once these dispatches were made, at the moment of the turn before them
 abbrev pub once_posted : Turning → List Event → List Dispatch → List Event
 once_posted turn H ps = once_all_dispatched (moment_of turn) H ps
 
 -- the history once a round was made: its requests were answered, then its acts were made, and then its deliveries
-abbrev pub once_made : ℕ → List Event → Round → List Event
-once_made m H r = once_posted r.turn (once_acted m H r.visit r.turn) r.dispatches
+abbrev pub once_made : ℕ → ℕ → List Event → Round → List Event
+once_made m saved H r = once_posted r.turn (once_acted m saved H r.visit r.turn) r.dispatches
 
 -- the work of the last talk, turn or deliveries, behind the rounds that were made
-abbrev pub close_work : ℕ → List Event → Close → Work
-close_work m H finished = went H
-close_work m H unreached = went H
-close_work m H (stopped came talk) = work_of m H talk
-close_work m H (halted visit turn end why) = turn_work (moment_of turn) (once_served m H visit) turn.acts end
-close_work m H (undelivered visit turn ps end why) =
-    end_work (moment_of turn) (once_posted turn (once_acted m H visit turn) ps) end
+abbrev pub close_work : ℕ → ℕ → List Event → Close → Work
+close_work m saved H finished = went H
+close_work m saved H unreached = went H
+close_work m saved H (stopped came talk) = work_of m saved H talk
+close_work m saved H (halted visit turn end why) =
+    turn_work (moment_of turn) (once_served m saved H visit) turn.acts end
+close_work m saved H (undelivered visit turn ps end why) =
+    end_work (moment_of turn) (once_posted turn (once_acted m saved H visit turn) ps) end
 
 -- the work of the rounds behind history H of manager m
-abbrev pub service_work : ℕ → List Event → Service → Work
-service_work m H service = close_work m (life (once_made m) H service.rounds) service.close
+abbrev pub service_work : ℕ → ℕ → List Event → Service → Work
+service_work m saved H service = close_work m saved (life (once_made m saved) H service.rounds) service.close
 
 -- the work of an activity
-abbrev pub activity_work : ℕ → List Event → Activity → Work
-activity_work m H (serving service) = service_work m H service
-activity_work m H (onboarding o) = onboarding_work H o
+abbrev pub activity_work : ℕ → ℕ → List Event → Activity → Work
+activity_work m saved H (serving service) = service_work m saved H service
+activity_work m saved H (onboarding o) = onboarding_work saved H o
+activity_work m saved H counting = went H
 
 -- the histories behind what is told in a visit, the latest first
-abbrev pub told_in_visit : ℕ → List Event → Visit → List (List Event)
-told_in_visit m H unasked = []
-told_in_visit m H (served came talk) = behind_told m H talk
+abbrev pub told_in_visit : ℕ → ℕ → List Event → Visit → List (List Event)
+told_in_visit m saved H unasked = []
+told_in_visit m saved H (served came talk) = behind_told m saved H talk
 
 -- those behind what is told in rounds
-abbrev pub told_in_rounds : ℕ → List Event → List Round → List (List Event)
-told_in_rounds m H [] = []
-told_in_rounds m H (r ∷ before) = told_in_visit m (life (once_made m) H before) r.visit ++ told_in_rounds m H before
+abbrev pub told_in_rounds : ℕ → ℕ → List Event → List Round → List (List Event)
+told_in_rounds m saved H [] = []
+told_in_rounds m saved H (r ∷ before) =
+    told_in_visit m saved (life (once_made m saved) H before) r.visit ++ told_in_rounds m saved H before
 
 -- those behind what is told at the end of rounds
-abbrev pub told_at_close : ℕ → List Event → Close → List (List Event)
-told_at_close m H finished = []
-told_at_close m H unreached = []
-told_at_close m H (stopped came talk) = behind_told m H talk
-told_at_close m H (halted visit turn end why) = told_in_visit m H visit
-told_at_close m H (undelivered visit turn ps end why) = told_in_visit m H visit
+abbrev pub told_at_close : ℕ → ℕ → List Event → Close → List (List Event)
+told_at_close m saved H finished = []
+told_at_close m saved H unreached = []
+told_at_close m saved H (stopped came talk) = behind_told m saved H talk
+told_at_close m saved H (halted visit turn end why) = told_in_visit m saved H visit
+told_at_close m saved H (undelivered visit turn ps end why) = told_in_visit m saved H visit
 
 -- those behind all replies that an activity tells, the latest first: behind each its request is answered
-abbrev pub told_by : ℕ → List Event → Activity → List (List Event)
-told_by m H (serving service) = told_at_close m (life (once_made m) H service.rounds) service.close
-    ++ told_in_rounds m H service.rounds
-told_by m H (onboarding o) = []
+abbrev pub told_by : ℕ → ℕ → List Event → Activity → List (List Event)
+told_by m saved H (serving service) = told_at_close m saved (life (once_made m saved) H service.rounds) service.close
+    ++ told_in_rounds m saved H service.rounds
+told_by m saved H (onboarding o) = []
+told_by m saved H counting = []
 
 -- which failure a fault of the settings is
 abbrev pub unset : SettingsFault → Failure
@@ -223,9 +232,10 @@ onboarding_ending (Ok said) = Ok (Onboarded said)
 onboarding_ending (Err why) = Err (unonboarded why)
 
 -- how a run ends after an activity
-abbrev pub activity_ending : List Event → Activity → Ending
-activity_ending H (serving service) = close_ending (length service.rounds) service.close
-activity_ending H (onboarding o) = onboarding_ending (answer_of H o)
+abbrev pub activity_ending : ℕ → List Event → Activity → Ending
+activity_ending saved H (serving service) = close_ending (length service.rounds) service.close
+activity_ending saved H (onboarding o) = onboarding_ending (answer_of saved H o)
+activity_ending saved H counting = Ok (Counted (totals_of H))
 
 -- how a run ends where a journal was to be made
 abbrev pub making_ending : ℕ → Result (Unit {0}) CreateFault → Ending
@@ -234,7 +244,7 @@ making_ending manager (Err why) = Err (unmade why)
 
 -- the histories behind all replies that a run tells, the latest first: behind each its request is answered
 abbrev pub told_of : Course → List (List Event)
-told_of (opened start activity) = told_by start.number start.history activity
+told_of (opened start activity) = told_by start.number start.saved start.history activity
 told_of other = []
 
 -- how a run ends
@@ -243,7 +253,7 @@ ending_of misused = Err Usage
 ending_of starved = Err NoMemory
 ending_of (making manager result) = making_ending manager result
 ending_of (unopened why) = Err (unopened_failure why)
-ending_of (opened start activity) = activity_ending start.history activity
+ending_of (opened start activity) = activity_ending start.saved start.history activity
 
 -- so many rounds were made where all were, and fewer where they ended before
 abbrev pub IsCount : ℕ → ℕ → Close → Type 0
@@ -259,6 +269,7 @@ pub record ServesAs (s : Settings) (service : Service) : Type 0 where
 abbrev pub IsActivityOf : Settings → Activity → Type 0
 IsActivityOf s (serving service) = ServesAs s service
 IsActivityOf s (onboarding o) = s.command ≡ Onboard
+IsActivityOf s counting = s.command ≡ Check
 
 -- the course is one of these settings
 abbrev pub IsOf : Settings → Course → Type 0

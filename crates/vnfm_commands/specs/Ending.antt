@@ -11,7 +11,8 @@ use Rattle.vnfm_commands.specs.declared.ending.Failure.TheVariants.{Usage, SiteF
 use Rattle.vnfm_commands.specs.declared.ending.Failure.TheVariants.{NoMemory, BadRecord, JournalFull, DescriptorRefused}
 use Rattle.vnfm_commands.specs.declared.ending.Failure.TheVariants.{Taken}
 use Rattle.vnfm_commands.specs.declared.ending.Report.{Report}
-use Rattle.vnfm_commands.specs.declared.ending.Report.TheVariants.{Done, Made, Onboarded}
+use Rattle.vnfm_commands.specs.declared.ending.Report.TheVariants.{Counted, Done, Made, Onboarded}
+use Rattle.vnfm_commands.specs.declared.totals.Totals.{Totals}
 
 -- how a run ended: what is reported, or why it failed
 abbrev pub Ending : Type 0
@@ -67,11 +68,18 @@ onboarded_line d =
     d.aspects (codes " aspects, "))
     d.levels (codes " levels\n")
 
+-- the line of what a journal has: its records, its live instances, its operations that go on, and its live
+-- subscriptions, in this order
+abbrev pub totals_line : Totals → List ℕ
+totals_line t = codes "records " ++ decimal t.records ++ codes ", instances " ++ decimal t.instances
+    ++ codes ", ongoing " ++ decimal t.ongoing ++ codes ", subscriptions " ++ decimal t.subscriptions ++ codes "\n"
+
 -- the line of a report
 abbrev pub report_line : Report → List ℕ
 report_line (Done rounds) = codes "done after " ++ decimal rounds ++ codes " rounds\n"
 report_line (Made manager) = numbered_line (codes "journal made for manager ") manager
 report_line (Onboarded d) = onboarded_line d
+report_line (Counted t) = totals_line t
 
 -- the line of a failure
 abbrev pub failure_line : Failure → List ℕ

@@ -3,4 +3,5 @@ pub mod Ending
 pub mod Outside
 pub mod Rounds
 pub mod Runs
+pub mod Totals
 pub mod Words

@@ -47,14 +47,15 @@ pub record ComesNobody (t : session.WorldTells) (a b : Peers) : Type 0 where
   pub counts : b.mouth.wire.intake.counts ≡ a.mouth.wire.intake.counts
   pub clock : b.clock ≡ a.clock
 
--- a connection came, from this role as the door tells, this talk was held on it, and it was ended
-pub record Receives (t : session.WorldTells) (m : ℕ) (H : List Event) (came : Role) (talk : Talk)
+-- a connection came, from this role as the door tells, this talk was held on it over history H of manager m, whose
+-- journal saves so many bytes, and it was ended
+pub record Receives (t : session.WorldTells) (m saved : ℕ) (H : List Event) (came : Role) (talk : Talk)
     (a b : Peers) : Type 0 where
   pub between : MouthState
   pub comes : t.door → Comes came a.mouth.wire.intake.door between.wire.intake.door
   pub counts : between.wire.intake.counts ≡ has_come a.mouth.wire.intake.counts
   pub begins : Begins between
-  pub attends : Attends t m H talk (record { mouth = between; clock = a.clock }) b
+  pub attends : Attends t m saved H talk (record { mouth = between; clock = a.clock }) b
 
 -- waiting for a connection failed
 pub record ComesNot (t : session.WorldTells) (a b : Peers) : Type 0 where
@@ -62,25 +63,26 @@ pub record ComesNot (t : session.WorldTells) (a b : Peers) : Type 0 where
   pub clock : b.clock ≡ a.clock
 
 -- what a visit in which the disk didn't fail does to the connection and the clock, over history H
-abbrev pub Visits : session.WorldTells → ℕ → List Event → Visit → Peers → Peers → Type 0
-Visits t m H unasked a b = ComesNobody t a b
-Visits t m H (served came talk) a b = Receives t m H came talk a b × (breaks talk.end ≡ false)
+abbrev pub Visits : session.WorldTells → ℕ → ℕ → List Event → Visit → Peers → Peers → Type 0
+Visits t m saved H unasked a b = ComesNobody t a b
+Visits t m saved H (served came talk) a b = Receives t m saved H came talk a b × (breaks talk.end ≡ false)
 
 -- what it does beside the journal: nobody else is asked
-pub record VisitDoes (t : Tells) (m : ℕ) (H : List Event) (visit : Visit) (a b : Beside) : Type 0 where
-  pub visits : Visits (session_tells t) m H visit (session_peers a) (session_peers b)
+pub record VisitDoes (t : Tells) (m saved : ℕ) (H : List Event) (visit : Visit) (a b : Beside) : Type 0 where
+  pub visits : Visits (session_tells t) m saved H visit (session_peers a) (session_peers b)
   pub asks : AsksNobody t a b
 
 -- What a turn does that ended so, over history H: the clock is read, which gives the turn's value, and an act is made
 -- for each occurrence that is active there, in the order of their numbers, each over the history that those before it
 -- left, or up to one that ends in a fault.
-pub record TurnDoes (t : Tells) (m : ℕ) (H : List Event) (turn : Turning) (end : TurnEnd) (a b : Beside) : Type 0 where
+pub record TurnDoes (t : Tells) (m saved : ℕ) (H : List Event) (turn : Turning) (end : TurnEnd)
+    (a b : Beside) : Type 0 where
   pub mouth : b.mouth ≡ a.mouth
   pub courier : b.courier ≡ a.courier
   pub clock : t.clock → Gives turn.value a.clock b.clock
   pub between : Around
   pub acts : DeedsDo (acting_tells t) m (moment_of turn) H turn.acts a.around between
-  pub end_does : EndDoes (acting_tells t) m (moment_of turn)
+  pub end_does : EndDoes (acting_tells t) m saved (moment_of turn)
       (once_all_done (moment_of turn) H turn.acts) end between b.around
   pub each : IsFor (active H) turn.acts end
 
@@ -88,7 +90,7 @@ pub record TurnDoes (t : Tells) (m : ℕ) (H : List Event) (turn : Turning) (end
 -- each live subscription for which a notice waits there, in the order of their numbers, each over the history that
 -- those before it left, or up to one that ends in a fault (SOL 003 5.4.20). Nobody but the courier is asked, and
 -- running jobs may have ended by themselves.
-pub record PostingDoes (t : Tells) (m : ℕ) (H : List Event) (turn : Turning) (ps : List Dispatch)
+pub record PostingDoes (t : Tells) (m saved : ℕ) (H : List Event) (turn : Turning) (ps : List Dispatch)
     (end : RoundEnd) (a b : Beside) : Type 0 where
   pub mouth : b.mouth ≡ a.mouth
   pub clock : b.clock ≡ a.clock
@@ -96,28 +98,28 @@ pub record PostingDoes (t : Tells) (m : ℕ) (H : List Event) (turn : Turning) (
   pub unasked : Unasked (acting_tells t) a.around b.around
   pub between : Carrier
   pub posts : DispatchesDo (posting_tells t) m (moment_of turn) H ps a.courier between
-  pub end_does : outbox.EndDoes (posting_tells t) m (moment_of turn) (once_posted turn H ps) end between b.courier
+  pub end_does : outbox.EndDoes (posting_tells t) m saved (moment_of turn) (once_posted turn H ps) end between b.courier
   pub each : outbox.IsFor (due m H) ps end
 
 -- what a turn that went through does behind a visit, over history H, and deliveries that ended so behind both
-pub record RoundGoes (t : Tells) (m : ℕ) (H : List Event) (visit : Visit) (turn : Turning)
+pub record RoundGoes (t : Tells) (m saved : ℕ) (H : List Event) (visit : Visit) (turn : Turning)
     (ps : List Dispatch) (end : RoundEnd) (a d : Beside) : Type 0 where
   pub met : Beside
   pub turned : Beside
-  pub visits : VisitDoes t m H visit a met
-  pub turns : TurnDoes t m (once_served m H visit) turn through met turned
-  pub posts : PostingDoes t m (once_acted m H visit turn) turn ps end turned d
+  pub visits : VisitDoes t m saved H visit a met
+  pub turns : TurnDoes t m saved (once_served m saved H visit) turn through met turned
+  pub posts : PostingDoes t m saved (once_acted m saved H visit turn) turn ps end turned d
 
 -- what a round does, over history H: a visit, then a turn that went through, over the history that the visit left, and
 -- then deliveries that did, over the one that the turn left
-abbrev pub RoundDoes : Tells → ℕ → List Event → Round → Beside → Beside → Type 0
-RoundDoes t m H r a b = RoundGoes t m H r.visit r.turn r.dispatches outbox.through a b
+abbrev pub RoundDoes : Tells → ℕ → ℕ → List Event → Round → Beside → Beside → Type 0
+RoundDoes t m saved H r a b = RoundGoes t m saved H r.visit r.turn r.dispatches outbox.through a b
 
 -- the rounds were made, each over the history that those before it left, and from where they ended
-abbrev pub RoundsDo : Tells → ℕ → List Event → List Round → Beside → Beside → Type 0
-RoundsDo t m H [] a b = b ≡ a
-RoundsDo t m H (r ∷ before) a c = (b : Beside) × RoundsDo t m H before a b
-    × RoundDoes t m (life (once_made m) H before) r b c
+abbrev pub RoundsDo : Tells → ℕ → ℕ → List Event → List Round → Beside → Beside → Type 0
+RoundsDo t m saved H [] a b = b ≡ a
+RoundsDo t m saved H (r ∷ before) a c = (b : Beside) × RoundsDo t m saved H before a b
+    × RoundDoes t m saved (life (once_made m saved) H before) r b c
 
 -- the turn's end is one for this cause
 abbrev pub FailsBy : TurnEnd → Halt → Type 0
@@ -142,22 +144,23 @@ IsPosted (Err why) end = (cause : Halt) × StopsBy end cause × (why ≡ halting
 IsPosted answer other = ⊥
 
 -- the rounds ended at the door: waiting for a connection failed, or the disk did in a talk
-abbrev pub DoorEnds : session.WorldTells → ℕ → List Event → Close → Peers → Peers → Type 0
-DoorEnds t m H unreached a b = ComesNot t a b
-DoorEnds t m H (stopped came talk) a b = Receives t m H came talk a b × (breaks talk.end ≡ true)
-DoorEnds t m H other a b = ⊥
+abbrev pub DoorEnds : session.WorldTells → ℕ → ℕ → List Event → Close → Peers → Peers → Type 0
+DoorEnds t m saved H unreached a b = ComesNot t a b
+DoorEnds t m saved H (stopped came talk) a b = Receives t m saved H came talk a b × (breaks talk.end ≡ true)
+DoorEnds t m saved H other a b = ⊥
 
 -- what the end of the rounds does; after a disk fault in a talk the clock isn't read
-abbrev pub CloseDoes : Tells → ℕ → List Event → Close → Beside → Beside → Type 0
-CloseDoes t m H finished a b = b ≡ a
-CloseDoes t m H unreached a b = DoorEnds (session_tells t) m H unreached (session_peers a) (session_peers b)
+abbrev pub CloseDoes : Tells → ℕ → ℕ → List Event → Close → Beside → Beside → Type 0
+CloseDoes t m saved H finished a b = b ≡ a
+CloseDoes t m saved H unreached a b = DoorEnds (session_tells t) m saved H unreached (session_peers a) (session_peers b)
     × (b.around ≡ a.around) × (b.courier ≡ a.courier)
-CloseDoes t m H (stopped came talk) a b = DoorEnds (session_tells t) m H (stopped came talk) (session_peers a)
-    (session_peers b) × AsksNobody t a b
-CloseDoes t m H (halted visit turn end why) a c =
-    (b : Beside) × VisitDoes t m H visit a b × TurnDoes t m (once_served m H visit) turn end b c × FailsBy end why
-CloseDoes t m H (undelivered visit turn ps end why) a b =
-    RoundGoes t m H visit turn ps end a b × StopsBy end why
+CloseDoes t m saved H (stopped came talk) a b = DoorEnds (session_tells t) m saved H (stopped came talk)
+    (session_peers a) (session_peers b) × AsksNobody t a b
+CloseDoes t m saved H (halted visit turn end why) a c =
+    (b : Beside) × VisitDoes t m saved H visit a b
+    × TurnDoes t m saved (once_served m saved H visit) turn end b c × FailsBy end why
+CloseDoes t m saved H (undelivered visit turn ps end why) a b =
+    RoundGoes t m saved H visit turn ps end a b × StopsBy end why
 
 -- the talk of this visit, where there was one, was held for the stated role, or else for the one that the door told
 abbrev pub IsVisitFor : ServedRole → Visit → Type 0
@@ -177,19 +180,21 @@ ClosesFor role other = Unit {0}
 
 -- what rounds do to all that stands beside the journal: they were made, and ended so, and all talks were held for the
 -- stated role, or else each for the one that the door told
-pub record Serves (t : Tells) (m : ℕ) (H : List Event) (service : Service) (a b : Beside) : Type 0 where
+pub record Serves (t : Tells) (m saved : ℕ) (H : List Event) (service : Service) (a b : Beside) : Type 0 where
   pub between : Beside
-  pub rounds : RoundsDo t m H service.rounds a between
-  pub close : CloseDoes t m (life (once_made m) H service.rounds) service.close between b
+  pub rounds : RoundsDo t m saved H service.rounds a between
+  pub close : CloseDoes t m saved (life (once_made m saved) H service.rounds) service.close between b
   pub roles : AreFor service.role service.rounds
   pub role : ClosesFor service.role service.close
 
--- What they do to the journal too; the manager is now n. From the telling of each reply on no stop takes back the
--- history behind it.
-pub record Makes (t : Tells) (m : ℕ) (H : List Event) (service : Service) (n : Managed) (w v : Outside) : Type 0 where
-  pub works : WorksWithJobs t.site m H (service_work m H service) n w.site v.site
-  pub serves : Serves t m H service (beside w) (beside v)
-  pub told : AreTold t.site m (told_by m H (serving service)) w.mouth.told v.mouth.told w.site v.site
+-- What they do to the journal too, which saves as much as before; the manager is now n. From the telling of each reply
+-- on no stop takes back the history behind it.
+pub record Makes (t : Tells) (m saved : ℕ) (H : List Event) (service : Service) (n : Managed)
+    (w v : Outside) : Type 0 where
+  pub works : WorksWithJobs t.site m H (service_work m saved H service) n w.site v.site
+  pub saves : n.ledger.saved ≡ saved
+  pub serves : Serves t m saved H service (beside w) (beside v)
+  pub told : AreTold t.site m (told_by m saved H (serving service)) w.mouth.told v.mouth.told w.site v.site
 
 -- what came of asking the door: a visit in which the disk didn't fail, or the rounds ended so
 pub data Met : Type 0 where
@@ -197,18 +202,18 @@ pub data Met : Type 0 where
   over : Close → Met
 
 -- its work behind history H
-abbrev pub met_work : ℕ → List Event → Met → Work
-met_work m H (visited visit) = went (once_served m H visit)
-met_work m H (over c) = close_work m H c
+abbrev pub met_work : ℕ → ℕ → List Event → Met → Work
+met_work m saved H (visited visit) = went (once_served m saved H visit)
+met_work m saved H (over c) = close_work m saved H c
 
 -- the histories behind what is told in it
-abbrev pub told_in_met : ℕ → List Event → Met → List (List Event)
-told_in_met m H (visited visit) = told_in_visit m H visit
-told_in_met m H (over c) = told_at_close m H c
+abbrev pub told_in_met : ℕ → ℕ → List Event → Met → List (List Event)
+told_in_met m saved H (visited visit) = told_in_visit m saved H visit
+told_in_met m saved H (over c) = told_at_close m saved H c
 
-abbrev pub MetDoes : session.WorldTells → ℕ → List Event → Met → Peers → Peers → Type 0
-MetDoes t m H (visited visit) a b = Visits t m H visit a b
-MetDoes t m H (over c) a b = DoorEnds t m H c a b
+abbrev pub MetDoes : session.WorldTells → ℕ → ℕ → List Event → Met → Peers → Peers → Type 0
+MetDoes t m saved H (visited visit) a b = Visits t m saved H visit a b
+MetDoes t m saved H (over c) a b = DoorEnds t m saved H c a b
 
 -- its talk was held for the stated role, or else for the one that the door told
 abbrev pub MetFor : ServedRole → Met → Type 0
@@ -227,12 +232,13 @@ IsMet (Ok done) (visited visit) = Unit {0}
 IsMet (Err why) (over c) = IsDoorEnd why c
 IsMet answer other = ⊥
 
--- what asking the door does, over history H of manager m, which is now n
-pub record Meets (t : session.WorldTells) (m : ℕ) (H : List Event) (met : Met) (n : Managed)
+-- what asking the door does, over history H of manager m, which is now n; its journal saves as much as before
+pub record Meets (t : session.WorldTells) (m saved : ℕ) (H : List Event) (met : Met) (n : Managed)
     (w v : World) : Type 0 where
-  pub works : Works t.site m H (met_work m H met) n w.site v.site
-  pub does : MetDoes t m H met (peers_of w) (peers_of v)
-  pub told : AreTold t.site m (told_in_met m H met) w.mouth.told v.mouth.told w.site v.site
+  pub works : Works t.site m H (met_work m saved H met) n w.site v.site
+  pub saves : n.ledger.saved ≡ saved
+  pub does : MetDoes t m saved H met (peers_of w) (peers_of v)
+  pub told : AreTold t.site m (told_in_met m saved H met) w.mouth.told v.mouth.told w.site v.site
 
 -- what came of asking for one round more: it was made, or they ended so
 pub data One : Type 0 where
@@ -240,18 +246,18 @@ pub data One : Type 0 where
   end : Close → One
 
 -- its work behind history H
-abbrev pub one_work : ℕ → List Event → One → Work
-one_work m H (round r) = went (once_made m H r)
-one_work m H (end c) = close_work m H c
+abbrev pub one_work : ℕ → ℕ → List Event → One → Work
+one_work m saved H (round r) = went (once_made m saved H r)
+one_work m saved H (end c) = close_work m saved H c
 
 -- the histories behind what is told in it
-abbrev pub told_in_one : ℕ → List Event → One → List (List Event)
-told_in_one m H (round r) = told_in_visit m H r.visit
-told_in_one m H (end c) = told_at_close m H c
+abbrev pub told_in_one : ℕ → ℕ → List Event → One → List (List Event)
+told_in_one m saved H (round r) = told_in_visit m saved H r.visit
+told_in_one m saved H (end c) = told_at_close m saved H c
 
-abbrev pub OneDoes : Tells → ℕ → List Event → One → Beside → Beside → Type 0
-OneDoes t m H (round r) a b = RoundDoes t m H r a b
-OneDoes t m H (end c) a b = CloseDoes t m H c a b
+abbrev pub OneDoes : Tells → ℕ → ℕ → List Event → One → Beside → Beside → Type 0
+OneDoes t m saved H (round r) a b = RoundDoes t m saved H r a b
+OneDoes t m saved H (end c) a b = CloseDoes t m saved H c a b
 
 -- its talk was held for the stated role, or else for the one that the door told
 abbrev pub OneFor : ServedRole → One → Type 0
@@ -269,8 +275,9 @@ IsOne (Ok done) (round r) = Unit {0}
 IsOne (Err why) (end c) = IsEndFor why c
 IsOne answer other = ⊥
 
--- what it does
-pub record MakesOne (t : Tells) (m : ℕ) (H : List Event) (one : One) (n : Managed) (w v : Outside) : Type 0 where
-  pub works : WorksWithJobs t.site m H (one_work m H one) n w.site v.site
-  pub does : OneDoes t m H one (beside w) (beside v)
-  pub told : AreTold t.site m (told_in_one m H one) w.mouth.told v.mouth.told w.site v.site
+-- what it does; the journal saves as much as before
+pub record MakesOne (t : Tells) (m saved : ℕ) (H : List Event) (one : One) (n : Managed) (w v : Outside) : Type 0 where
+  pub works : WorksWithJobs t.site m H (one_work m saved H one) n w.site v.site
+  pub saves : n.ledger.saved ≡ saved
+  pub does : OneDoes t m saved H one (beside w) (beside v)
+  pub told : AreTold t.site m (told_in_one m saved H one) w.mouth.told v.mouth.told w.site v.site

@@ -1,14 +1,15 @@
 -- What a run does to the journal's file, the door and the clock, and with the orchestrator and the infrastructure.
-use Rattle.std.specs.Prelude.{◌≡◌, ◌<◌, ◌⊎◌, ℕ, List, false}
+use Rattle.std.specs.Prelude.{◌≡◌, ◌<◌, ◌⊎◌, ◌+◌, ℕ, List, false}
 use Rattle.executor.specs.Chain.{AreTold}
 use Rattle.executor.specs.History.{HasHistory}
 use Rattle.executor.specs.Open.{Refuses}
-use Rattle.executor.specs.Work.{Work, Works, WorksWithJobs, Grows, HasSome, StaysSound, aimed, failed, stood}
+use Rattle.executor.specs.Work.{Work, Works, WorksWithJobs, Grows, HasSome, StaysSound, aimed, failed, stood, went}
 use Rattle.executor.specs.Managed.{Managed}
 use Rattle.executor.specs.declared.manager.OpenFault.{OpenFault}
 use Rattle.journal_core.specs.Create.{Creates}
 use Rattle.journal_core.specs.Header.{IsUnmade, IsForeign}
 use Rattle.journal_core.specs.Load.{SyncsAndReads}
+use Rattle.journal_records.specs.File.{batches, gate_place, records, size}
 use Rattle.lcm_events.specs.declared.events.Event.{Event}
 use Rattle.lcm_jobs.specs.Sound.{IsSound}
 use Rattle.lcm_model.specs.Allowed.{IsLegal}
@@ -17,12 +18,12 @@ use Rattle.site_traits.specs.Door.{DoorCounts}
 use Rattle.site_traits.specs.Site.{Pair, SiteState, IsSettled, KeepsJobs, LeavesOnly}
 use Rattle.lcm_sessions.specs.Doing.{BringsIn}
 use Rattle.vnfm_commands.specs.Course.{Course, misused, starved, making, unopened, opened, Activity, serving}
-use Rattle.vnfm_commands.specs.Course.{onboarding, Opening, activity_work, service_work, told_by, IsOfWords}
+use Rattle.vnfm_commands.specs.Course.{counting, onboarding, Opening, activity_work, service_work, told_by, IsOfWords}
 use Rattle.lcm_sessions.specs.Onboarding.{onboarding_work}
 use Rattle.vnfm_commands.specs.Outside.{Beside, Outside, Tells, beside, session_peers, session_tells}
 use Rattle.vnfm_commands.specs.Rounds.{AsksNobody, Rests, Serves}
 use Rattle.command_line.specs.declared.options.Command.{Command}
-use Rattle.command_line.specs.declared.options.Command.TheVariants.{Init, Onboard, Once}
+use Rattle.command_line.specs.declared.options.Command.TheVariants.{Check, Init, Onboard, Once}
 
 -- a site that wasn't called: what is read and what a stop may leave are as they were
 pub record IsUntouched (a b : SiteState) : Type 0 where
@@ -55,9 +56,11 @@ pub record IsSoundStart (m : ℕ) (H : List Event) (s : SiteState) : Type 0 wher
   pub start : IsStart m H s
   pub legal : IsLegal m H
 
--- why the door failed for a command: waiting for a connection failed, or for `onboard` a read did
+-- why the door failed for a command: waiting for a connection failed, or for `onboard` a read did; `check` never asks
+-- it
 abbrev pub IsDoorCause : Command → DoorCounts → DoorCounts → Type 0
 IsDoorCause Onboard a b = Rose a.next b.next ⊎ Rose a.faults b.faults
+IsDoorCause Check a b = ⊥
 IsDoorCause other a b = Rose a.next b.next
 
 -- a sound start of a command: of `init` a file that is unfinished for some manager or not, else a journal with a legal
@@ -71,6 +74,7 @@ abbrev pub MayEndWith : Command → ℕ → Type 0
 MayEndWith Init status = (status ≡ 0) ⊎ ((status ≡ 6) ⊎ (status ≡ 11))
 MayEndWith Onboard status = (status ≡ 0) ⊎ ((status ≡ 6) ⊎ ((status ≡ 9) ⊎ (status ≡ 10)))
 MayEndWith Once status = (status ≡ 0) ⊎ ((status ≡ 6) ⊎ (status ≡ 9))
+MayEndWith Check status = (status ≡ 0) ⊎ (status ≡ 6)
 
 -- nothing is pending, and the file has this history
 pub record IsAtRest (m : ℕ) (H : List Event) (s : SiteState) : Type 0 where
@@ -94,25 +98,28 @@ AtFile starved a b = IsUntouched a b
 AtFile (making manager result) a b = Creates manager result a b
 AtFile (unopened why) a b = IsRefused why a b
 AtFile (opened start activity) a b = Recovers start.number start.history
-    (activity_work start.number start.history activity) a b
+    (activity_work start.number start.saved start.history activity) a b
 
--- what an activity does beside the journal: onboarding asks nobody but the door
+-- what an activity does beside the journal: onboarding asks nobody but the door, and counting nobody
 abbrev pub ActivityDoes : Tells → Opening → Activity → Beside → Beside → Type 0
-ActivityDoes t start (serving service) a b = Serves t start.number start.history service a b
+ActivityDoes t start (serving service) a b = Serves t start.number start.saved start.history service a b
 ActivityDoes t start (onboarding o) a b = BringsIn (session_tells t) o (session_peers a) (session_peers b)
     × AsksNobody t a b
+ActivityDoes t start counting a b = b ≡ a
 
--- what an activity does to the journal: rounds have jobs begun and looked at, and onboarding leaves the jobs alone
-abbrev pub ActivityWorks : Type 0 → ℕ → List Event → Activity → Managed → SiteState → SiteState → Type 0
-ActivityWorks tells m H (serving service) n a b = WorksWithJobs tells m H (service_work m H service) n a b
-ActivityWorks tells m H (onboarding o) n a b = Works tells m H (onboarding_work H o) n a b
+-- what an activity does to the journal: rounds have jobs begun and looked at, onboarding leaves the jobs alone, and
+-- counting leaves all
+abbrev pub ActivityWorks : Type 0 → ℕ → ℕ → List Event → Activity → Managed → SiteState → SiteState → Type 0
+ActivityWorks tells m saved H (serving service) n a b = WorksWithJobs tells m H (service_work m saved H service) n a b
+ActivityWorks tells m saved H (onboarding o) n a b = Works tells m H (onboarding_work saved H o) n a b
+ActivityWorks tells m saved H counting n a b = Works tells m H (went H) n a b
 
 -- what an activity does, behind the opening; the manager is now n
-pub record Pursues (t : Tells) (m : ℕ) (H : List Event) (activity : Activity) (n : Managed)
+pub record Pursues (t : Tells) (m saved : ℕ) (H : List Event) (activity : Activity) (n : Managed)
     (w v : Outside) : Type 0 where
-  pub works : ActivityWorks t.site m H activity n w.site v.site
-  pub does : ActivityDoes t (record { number = m; history = H }) activity (beside w) (beside v)
-  pub told : AreTold t.site m (told_by m H activity) w.mouth.told v.mouth.told w.site v.site
+  pub works : ActivityWorks t.site m saved H activity n w.site v.site
+  pub does : ActivityDoes t (record { number = m; saved = saved; history = H }) activity (beside w) (beside v)
+  pub told : AreTold t.site m (told_by m saved H activity) w.mouth.told v.mouth.told w.site v.site
 
 -- what a run does beside the journal: words that set nothing do nothing, and the making and the opening of a journal
 -- ask nobody
@@ -132,29 +139,51 @@ pub record IsLegalRun (m : ℕ) (H : List Event) (w : Work) : Type 0 where
 -- what was opened is a legal history, and stays one
 abbrev pub IsLegalCourse : Course → Type 0
 IsLegalCourse (opened start activity) = IsLegalRun start.number start.history
-    (activity_work start.number start.history activity)
+    (activity_work start.number start.saved start.history activity)
 IsLegalCourse other = Unit {0}
 
 -- what a run does to the jobs: it leaves them alone, but for rounds, whose acts `CourseDoes` tells
 abbrev pub AtJobsBy : Activity → SiteState → SiteState → Type 0
 AtJobsBy (serving service) a b = Unit {0}
 AtJobsBy (onboarding o) a b = KeepsJobs a b
+AtJobsBy counting a b = KeepsJobs a b
 
 abbrev pub AtJobs : Course → SiteState → SiteState → Type 0
 AtJobs (opened start activity) a b = AtJobsBy activity a b
 AtJobs other a b = KeepsJobs a b
 
+-- a file whose journal was opened to be counted was synced and read, and nothing else was done to it
+abbrev pub AtCountBy : Activity → SiteState → SiteState → Type 0
+AtCountBy counting a b = SyncsAndReads a b
+AtCountBy other a b = Unit {0}
+
+abbrev pub AtCount : Course → SiteState → SiteState → Type 0
+AtCount (opened start activity) a b = AtCountBy activity a b
+AtCount other a b = Unit {0}
+
 -- what was told in a run, and since when: from the telling of each reply on no stop takes back the history behind it
 abbrev pub ToldIn : Type 0 → Course → List ℕ → List ℕ → SiteState → SiteState → Type 0
 ToldIn tells (opened start activity) before now a b = AreTold tells start.number
-    (told_by start.number start.history activity) before now a b
+    (told_by start.number start.saved start.history activity) before now a b
 ToldIn tells other before now a b = now ≡ before
+
+-- the closed gate of the file stands so many bytes nearer to the front than where each of its records has a batch of
+-- its own (own format, docs/JOURNAL.md)
+abbrev pub Saves : ℕ → List ℕ → Type 0
+Saves saved image = gate_place (batches image) + saved ≡ size (records image)
+
+-- the journal that was opened saves so many bytes
+abbrev pub SavesIn : Course → List ℕ → Type 0
+SavesIn (opened start activity) image = Saves start.saved image
+SavesIn other image = Unit {0}
 
 -- what a run does, by the way that it went
 pub record Does (t : Tells) (course : Course) (w v : Outside) : Type 0 where
   pub legal : IsLegalCourse course
   pub site : t.site → AtFile course w.site v.site
+  pub saved : t.site → SavesIn course w.site.image
   pub jobs : t.site → AtJobs course w.site v.site
+  pub counted : t.site → AtCount course w.site v.site
   pub beside : CourseDoes t course (beside w) (beside v)
   pub told : ToldIn t.site course w.mouth.told v.mouth.told w.site v.site
 

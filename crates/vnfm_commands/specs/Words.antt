@@ -2,7 +2,7 @@
 use Rattle.std.specs.Prelude.{◌≡◌, ℕ, List, Bool, true, false, Some}
 use Rattle.command_line.specs.Words.{settings_of}
 use Rattle.command_line.specs.declared.options.Command.{Command}
-use Rattle.command_line.specs.declared.options.Command.TheVariants.{Init, Onboard, Once}
+use Rattle.command_line.specs.declared.options.Command.TheVariants.{Check, Init, Onboard, Once}
 use Rattle.command_line.specs.declared.options.Settings.{Settings}
 
 -- the words are a command
@@ -27,6 +27,7 @@ abbrev pub loads : Command → Bool
 loads Init = false
 loads Onboard = true
 loads Once = true
+loads Check = true
 
 -- the words are a command that loads the journal
 pub record AreLoading (words : List (List ℕ)) : Type 0 where

@@ -1,7 +1,8 @@
-//! What the words of a command line have done: a journal is made, a descriptor is onboarded, or rounds are made.
+//! What the words of a command line have done: a journal is made, a descriptor is onboarded, rounds are made, or what a
+//! journal has is counted.
 ghost use Rattle.std.specs.Prelude.{◌≡◌, ◌≢◌, ◌↔◌, List, None, Result, true};
 ghost use Rattle.command_line.specs.Words.{settings_of};
-ghost use Rattle.command_line.specs.declared.options.Command.TheVariants.{Once};
+ghost use Rattle.command_line.specs.declared.options.Command.TheVariants.{Check, Once};
 ghost use Rattle.executor.specs.Managed.{IsReady};
 ghost use Rattle.journal_core.specs.Create.{Creates};
 ghost use Rattle.journal_core.specs.declared.create.CreateFault.{CreateFault};
@@ -17,6 +18,7 @@ ghost use Rattle.vnfm_commands.specs.Words.{AreWordsOf, loads};
 
 use crate::ending::{Ending, Failure, Report};
 use crate::rounds::{ServedRole, make_rounds};
+use crate::totals::count_all;
 use command_line::{Command, Settings, settings};
 use executor::{Manager, works_add_up, works_with_jobs_add_up};
 use journal_core::{Journal, faults_are_counted};
@@ -47,6 +49,8 @@ pub fn obey<S: Site, D: Door, O: Orchestrator, C: Courier, K: Clock>(
         × (result ≡ ending_of course) }
     ensures unasked { ¬ (AreWordsOf Once words.now) → orchestrator.new ≡ orchestrator.old }
     ensures unposted { ¬ (AreWordsOf Once words.now) → courier.new ≡ courier.old }
+    ensures unheard { AreWordsOf Check words.now → mouth.new ≡ mouth.old }
+    ensures untimed { AreWordsOf Check words.now → clock.new ≡ clock.old }
     ensures usage { (result ≡ Err Failure.Usage) ↔ (settings_of words.now ≡ None) }
     ensures disk { DiskFails (result ≡ Err Failure.SiteFault) (S.counts site.old) (S.counts site.new) }
     ensures untouched_jobs { ¬ (AreWordsOf Once words.now) → CountJobsAlike (S.counts site.old) (S.counts site.new) }
@@ -56,8 +60,8 @@ pub fn obey<S: Site, D: Door, O: Orchestrator, C: Courier, K: Clock>(
     perform(alloc, &settings, site, mouth, orchestrator, courier, clock)
 }
 
-/// Performs the command: makes the journal, or opens it, and then onboards a descriptor or makes the rounds that the
-/// words set.
+/// Performs the command: makes the journal, or opens it, and then onboards a descriptor, makes the rounds that the words
+/// set, or counts what the journal has.
 fn perform<S: Site, D: Door, O: Orchestrator, C: Courier, K: Clock>(
     alloc: Global,
     settings: &Settings,
@@ -76,6 +80,8 @@ fn perform<S: Site, D: Door, O: Orchestrator, C: Courier, K: Clock>(
         × (result ≡ ending_of course) }
     ensures unasked { settings.now.command ≢ Once → orchestrator.new ≡ orchestrator.old }
     ensures unposted { settings.now.command ≢ Once → courier.new ≡ courier.old }
+    ensures unheard { settings.now.command ≡ Check → mouth.new ≡ mouth.old }
+    ensures untimed { settings.now.command ≡ Check → clock.new ≡ clock.old }
     ensures disk { DiskFails (result ≡ Err Failure.SiteFault) (S.counts site.old) (S.counts site.new) }
     ensures untouched_jobs { settings.now.command ≢ Once → CountJobsAlike (S.counts site.old) (S.counts site.new) }
 {
@@ -100,6 +106,10 @@ fn perform<S: Site, D: Door, O: Orchestrator, C: Courier, K: Clock>(
                 courier,
                 clock,
             )
+        }
+        Command::Check => {
+            let manager = Manager::load(alloc, site)?;
+            Ok(Report::Counted(count_all(&manager)))
         }
     }
 }

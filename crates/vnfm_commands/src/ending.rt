@@ -5,8 +5,9 @@ ghost use Rattle.site_traits.specs.Sink.{Puts, SinkCause};
 ghost use Rattle.vnfd_document.specs.Texts.{fault_text};
 ghost use Rattle.vnfm_commands.specs.Ending.{Ends, failure_line, failure_status, full_line, numbered_line};
 ghost use Rattle.vnfm_commands.specs.Ending.{onboarded_line, output_of, refusal_text, refused_line, report_line};
-ghost use Rattle.vnfm_commands.specs.Ending.{with_count};
+ghost use Rattle.vnfm_commands.specs.Ending.{totals_line, with_count};
 
+use crate::totals::Totals;
 use arrayvec::ArrayString;
 use command_line::SettingsFault;
 use executor::OpenFault;
@@ -27,6 +28,8 @@ pub enum Report {
     Made(u32),
     /// This is said of a descriptor that was onboarded.
     Onboarded(Onboarded),
+    /// A journal has so much.
+    Counted(Totals),
 }
 
 /// Why a command didn't do its work, by its status.
@@ -132,6 +135,7 @@ impl Report {
             Report::Done(rounds) => out.put(done_line(*rounds).as_str().as_bytes()),
             Report::Made(manager) => out.put(made_line(*manager).as_str().as_bytes()),
             Report::Onboarded(said) => out.put(onboarded_line(said).as_str().as_bytes()),
+            Report::Counted(totals) => out.put(totals_line(totals).as_str().as_bytes()),
         }
     }
 }
@@ -211,6 +215,24 @@ fn put_count(line: &mut ArrayString<512>, count: usize, unit: &str)
     let mut digits = Buffer::new();
     line.push_str(digits.format(count));
     line.push_str(unit);
+}
+
+/// The line of what a journal has.
+fn totals_line(totals: &Totals) -> ArrayString<160>
+    ensures { result.bytes ≡ totals_line totals.now }
+{
+    let mut digits = Buffer::new();
+    let mut line = ArrayString::new();
+    line.push_str("records ");
+    line.push_str(digits.format(totals.records));
+    line.push_str(", instances ");
+    line.push_str(digits.format(totals.instances));
+    line.push_str(", ongoing ");
+    line.push_str(digits.format(totals.ongoing));
+    line.push_str(", subscriptions ");
+    line.push_str(digits.format(totals.subscriptions));
+    line.push_str("\n");
+    line
 }
 
 /// The line of a descriptor that is refused.

@@ -4,6 +4,8 @@
 mod commands;
 mod ending;
 mod rounds;
+mod totals;
 
 pub use commands::obey;
 pub use ending::{Ending, Failure, Report, finish};
+pub use totals::Totals;

@@ -70,7 +70,8 @@ pub fn make_rounds<S: Site, D: Door, O: Orchestrator, C: Courier, K: Clock>(
 ) -> Ending
     requires ready { (H : List Event) × IsReady S.tells manager.old H (S.state site.old) }
     ensures makes { (H : List Event) → IsReady S.tells manager.old H (S.state site.old) → (service : Service)
-        × Makes (telling S.tells D.tells O.tells C.tells K.tells) manager.old.ledger.manager H service manager.new
+        × Makes (telling S.tells D.tells O.tells C.tells K.tells) manager.old.ledger.manager
+        manager.old.ledger.saved H service manager.new
         (outside (S.state site.old) (S.counts site.old) mouth.old (O.state orchestrator.old) (O.counts orchestrator.old)
         (C.state courier.old) (C.counts courier.old) (K.state clock.old))
         (outside (S.state site.new) (S.counts site.new) mouth.new (O.state orchestrator.new) (O.counts orchestrator.new)
@@ -115,7 +116,8 @@ fn make_round<S: Site, D: Door, O: Orchestrator, C: Courier, K: Clock>(
 ) -> Result<(), Failure>
     requires ready { (H : List Event) × IsReady S.tells manager.old H (S.state site.old) }
     ensures makes { (H : List Event) → IsReady S.tells manager.old H (S.state site.old) → (one : One)
-        × MakesOne (telling S.tells D.tells O.tells C.tells K.tells) manager.old.ledger.manager H one manager.new
+        × MakesOne (telling S.tells D.tells O.tells C.tells K.tells) manager.old.ledger.manager
+        manager.old.ledger.saved H one manager.new
         (outside (S.state site.old) (S.counts site.old) mouth.old (O.state orchestrator.old) (O.counts orchestrator.old)
         (C.state courier.old) (C.counts courier.old) (K.state clock.old))
         (outside (S.state site.new) (S.counts site.new) mouth.new (O.state orchestrator.new) (O.counts orchestrator.new)
@@ -143,7 +145,8 @@ fn meet<S: Site, D: Door, K: Clock>(
 ) -> Result<(), Failure>
     requires ready { (H : List Event) × IsReady S.tells manager.old H (S.state site.old) }
     ensures meets { (H : List Event) → IsReady S.tells manager.old H (S.state site.old) → (met : Met)
-        × Meets (session.telling S.tells D.tells K.tells) manager.old.ledger.manager H met manager.new
+        × Meets (session.telling S.tells D.tells K.tells) manager.old.ledger.manager
+        manager.old.ledger.saved H met manager.new
         (session.world (S.state site.old) mouth.old (K.state clock.old))
         (session.world (S.state site.new) mouth.new (K.state clock.new))
         × MetFor role met × IsMet result met }
@@ -176,7 +179,8 @@ fn take_turn<S: Site, O: Orchestrator>(
     requires ready { (H : List Event) × IsReady S.tells manager.old H (S.state site.old) }
     ensures turns { (H : List Event) → IsReady S.tells manager.old H (S.state site.old)
         → (acts : List Deed) × (end : TurnEnd)
-        × Turns (acting.telling S.tells O.tells) (point manager.old.ledger.manager now H) acts end manager.new
+        × Turns (acting.telling S.tells O.tells) (point manager.old.ledger.manager manager.old.ledger.saved now H)
+        acts end manager.new
         (acting.reach (S.state site.old) (S.counts site.old) (O.state orchestrator.old) (O.counts orchestrator.old))
         (acting.reach (S.state site.new) (S.counts site.new) (O.state orchestrator.new) (O.counts orchestrator.new))
         × IsTurned result end }
@@ -212,8 +216,8 @@ fn post_notices<S: Site, C: Courier>(
     requires ready { (H : List Event) × IsReady S.tells manager.old H (S.state site.old) }
     ensures posts { (H : List Event) → IsReady S.tells manager.old H (S.state site.old)
         → (dispatches : List Dispatch) × (end : RoundEnd)
-        × DeliversAll (posting.telling S.tells C.tells) (posting.point manager.old.ledger.manager now H) dispatches end
-        manager.new
+        × DeliversAll (posting.telling S.tells C.tells) (posting.point manager.old.ledger.manager
+        manager.old.ledger.saved now H) dispatches end manager.new
         (posting.lent (S.state site.old) (S.counts site.old) (C.state courier.old) (C.counts courier.old))
         (posting.lent (S.state site.new) (S.counts site.new) (C.state courier.new) (C.counts courier.new))
         × IsPosted result end }

@@ -11,7 +11,7 @@ use Rattle.program_words.specs.declared.page.Page.{Page}
 use Rattle.site_traits.specs.Site.{SiteState}
 use Rattle.command_line.specs.Words.{Settles, settings_of}
 use Rattle.command_line.specs.declared.options.Command.{Command}
-use Rattle.command_line.specs.declared.options.Command.TheVariants.{Init, Onboard, Once}
+use Rattle.command_line.specs.declared.options.Command.TheVariants.{Check, Init, Onboard, Once}
 use Rattle.command_line.specs.declared.options.Settings.{Settings}
 use Rattle.command_line.specs.declared.options.SettingsFault.{SettingsFault}
 use Rattle.command_line.specs.declared.options.SettingsFault.TheVariants.{Usage}
@@ -50,16 +50,18 @@ pub unset : (fault : SettingsFault) (set : Option Settings) → fault ≡ Usage 
 unset fault set is settles = subst (λ (f : SettingsFault). Settles (Err f) set) is settles
 
 module _ {N H F J : Type 0} where
-  -- a run with its line to standard error is what `once` performs, and one with it to standard output what the other two do
+  -- a run with its line to standard error is what `once` performs, and one with it to standard output what the other three do
   pub performed_on_error : (g : Meaning N H F) (command : Command) (words : List (List ℕ)) (status : ℕ) (a b : Scene N H F J)
       → command ≡ Once → SpeaksOnError g words status a b → Performs g (answers command) words status a b
   performed_on_error g command words status a b is speaks = subst (λ (c : Command). Performs g (answers c) words status a b) (sym is) speaks
 
   pub performed_on_output : (g : Meaning N H F) (command : Command) (words : List (List ℕ)) (status : ℕ) (a b : Scene N H F J)
-      → (command ≡ Init) ⊎ (command ≡ Onboard) → SpeaksOnOutput g words status a b → Performs g (answers command) words status a b
+      → (command ≡ Init) ⊎ ((command ≡ Onboard) ⊎ (command ≡ Check)) → SpeaksOnOutput g words status a b → Performs g (answers command) words status a b
   performed_on_output g command words status a b (inl is) speaks =
       subst (λ (c : Command). Performs g (answers c) words status a b) (sym is) speaks
-  performed_on_output g command words status a b (inr is) speaks =
+  performed_on_output g command words status a b (inr (inl is)) speaks =
+      subst (λ (c : Command). Performs g (answers c) words status a b) (sym is) speaks
+  performed_on_output g command words status a b (inr (inr is)) speaks =
       subst (λ (c : Command). Performs g (answers c) words status a b) (sym is) speaks
 
   -- a run over what was opened for these settings obeys the words that set them

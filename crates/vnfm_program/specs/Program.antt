@@ -3,7 +3,7 @@ use Rattle.std.specs.Prelude.{◌≡◌, ◌⊎◌, ◌+◌, ℕ, List, [], Bool
 use Rattle.std.specs.declared.alloc.AllocError.{AllocError}
 use Rattle.command_line.specs.Words.{settings_of}
 use Rattle.command_line.specs.declared.options.Command.{Command}
-use Rattle.command_line.specs.declared.options.Command.TheVariants.{Init, Onboard, Once}
+use Rattle.command_line.specs.declared.options.Command.TheVariants.{Check, Init, Onboard, Once}
 use Rattle.command_line.specs.declared.options.Settings.{Settings}
 use Rattle.host_calls.specs.Files.{FilesState, Hold}
 use Rattle.lcm_mouth.specs.Mouth.{MouthState}
@@ -69,6 +69,7 @@ abbrev pub answers : Command → Bool
 answers Init = false
 answers Onboard = false
 answers Once = true
+answers Check = false
 
 -- where the line goes that tells how the run went: that of words that set nothing goes to standard output
 abbrev pub is_told_on_error : Option Settings → Bool
@@ -81,6 +82,7 @@ abbrev pub folder_of : Command → FolderSync
 folder_of Init = Always
 folder_of Onboard = WhereMade
 folder_of Once = WhereMade
+folder_of Check = WhereMade
 
 -- a write on the mouth's connection failed
 abbrev pub is_undelivered : MouthState → Bool

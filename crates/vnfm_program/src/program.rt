@@ -235,7 +235,7 @@ fn folder_of(command: Command) -> FolderSync
 {
     match command {
         Command::Init => FolderSync::Always,
-        Command::Onboard | Command::Once => FolderSync::WhereMade,
+        Command::Onboard | Command::Once | Command::Check => FolderSync::WhereMade,
     }
 }
 
@@ -274,7 +274,9 @@ fn perform<
 {
     match command {
         Command::Once => tell_on_error(alloc, words, mouth, machine),
-        Command::Init | Command::Onboard => tell_on_output(alloc, words, mouth, machine),
+        Command::Init | Command::Onboard | Command::Check => {
+            tell_on_output(alloc, words, mouth, machine)
+        }
     }
 }
 

@@ -1,9 +1,10 @@
 -- What the status says, from the way that the run went.
 use Rattle.std.proofs.Common.{◌≡◌, ◌∙◌, ℕ, ap, arith, rules, subst, sym}
 use Rattle.vnfm_commands.specs.Course.{ending_of}
-use Rattle.vnfm_commands.specs.Ending.{Ending, status_of, told_status}
+use Rattle.vnfm_commands.specs.Ending.{Ending, Output, output_of, status_of, told_status}
 use Rattle.vnfm_commands.specs.Runs.{IsOrYields, MayEndWith}
 use Rattle.vnfm_commands.proofs.DiskLemmas.{disk_as, lost_line, one_fault}
+use Rattle.vnfm_cli.proofs.CheckLemmas.{left_alone, told_totals}
 use Rattle.vnfm_cli.proofs.DoorLemmas.{course_fails, fails_with}
 use Rattle.vnfm_cli.proofs.EndingLemmas.{is_status, put_told, seven_lost, status_told, told_by, told_or_yields, told_same, where_told}
 use Rattle.vnfm_cli.proofs.ExactLemmas.{bad_record_ending, complete_ending, door_cause, ends_good, no_journal_ending, taken_ending}
@@ -20,6 +21,8 @@ returns-clause-promises g c =
     let at = c.finish.ensures.status_is in
     let e : Ending = c.obey-ending.result in
     let put = c.finish.ensures.put in
+    let before : Output = output_of g.W.Sink.state g.W.Sink.counts c.args.out.now in
+    let after : Output = output_of g.W.Sink.state g.W.Sink.counts c.finish.new.out in
     let is : c.finish.result ≡ told_status c.finish.ensures.put (status_of (ending_of runs.0)) = rw (← runs.2) at in
     let Told : ℕ → Type 0 = IsTold g.S.Site.tells c.args.words.now a in
     let good = ends_good _ runs.0 _ _ does.beside in
@@ -39,6 +42,11 @@ returns-clause-promises g c =
           _ _ a b (does.site tells) does.legal does.told m H start;
       beginning = λ tells m are fresh. leaves_fresh runs.0 c.args.words.now a b runs.1.words_are (does.site tells)
           (does.jobs tells) m are fresh;
+      unchanged = λ tells are. left_alone runs.0 c.args.words.now a b are runs.1.words_are (does.site tells) (does.jobs tells)
+          (does.counted tells);
+      totals = λ tells told are done m H small has.
+          told_totals c.a_file_has_one_history.ensures _ told runs.0 c.args.words.now c.finish.result m H a b before after are
+          runs.1.words_are (does.site tells) does.legal (rw (← runs.2) c.finish.ensures) done small has;
       disk = disk_as _ _ _ _ c.obey-ending.ensures.disk
           (λ is. at ∙ told_same _ _ 3 (ap status_of is) (omega arith))
           (λ is. where_told 3 (status_of e) _ (told_by e).1 (status_told put (status_of e) 3 (sym at ∙ is) (omega arith)));

@@ -1,12 +1,15 @@
--- A journal was to be made; or it was opened, and a descriptor onboarded or rounds made; or it wasn't opened.
-use Rattle.std.proofs.Common.{Err, ap, refl, ◌∙◌}
+-- A journal was to be made; or it was opened, and a descriptor onboarded, rounds made or what it has counted; or it wasn't
+-- opened.
+use Rattle.std.proofs.Common.{Err, Ok, ap, refl, ◌∙◌}
 use Rattle.std.proofs.lemmas.Result.{err_from_is_err_and}
-use Rattle.vnfm_commands.specs.Course.{making, onboarding, onboarding_ending, opened, serving, unopened}
+use Rattle.vnfm_commands.specs.Course.{counting, making, onboarding, onboarding_ending, opened, serving, unopened}
 use Rattle.vnfm_commands.specs.Outside.{outside}
 use Rattle.vnfm_commands.proofs.DiskLemmas.{alike_of, disk_last, disk_of, synced, unonboarded_fails, unopened_fails}
 use Rattle.vnfm_commands.proofs.RoundLemmas.{asks_nobody}
 use Rattle.vnfm_commands.proofs.RunLemmas.{does_activity, does_not_open, opening_of, rests_opened}
 use Rattle.vnfm_commands.specs.Words.{loads}
+use Rattle.vnfm_commands.specs.declared.ending.Report.TheVariants.{Counted}
+use Rattle.vnfm_commands.specs.declared.totals.Totals.{Totals}
 use Rattle.vnfm_commands.proofs.commands.perform.Goals as goal
 
 pub returns-in-Init-clause-does : goal.returns-in-Init-clause-does
@@ -20,7 +23,9 @@ returns-in-Init-clause-does g c =
       record {
         legal = tt;
         site = made.1;
+        saved = λ told. tt;
         jobs = c.init.ensures.jobs;
+        counted = λ told. tt;
         beside = record { peers = refl; asks = asks_nobody _ _ _ behind refl refl c.init.ensures.jobs c.init.ensures.disk };
         told = refl;
       },
@@ -95,7 +100,8 @@ returns-in_ok-onboard-in-Onboard-clause-does g c =
             );
             told = it.1.brings.unnoted;
           })
-          (rests_opened _ _ _ _ _ _ _ _ _ _ _ _ (λ told. (leaves told (c.in_ok-manager-in-Onboard.ensures.told told)).0) clean),
+          (rests_opened _ _ _ _ _ _ _ _ _ _ _ _ (λ told. (leaves told (c.in_ok-manager-in-Onboard.ensures.told told)).0) clean)
+          (λ told. tt),
       ap onboarding_ending it.2,
     )
 
@@ -130,7 +136,8 @@ returns-in_err-onboard-in-Onboard-clause-does g c =
             );
             told = it.1.brings.unnoted;
           })
-          (rests_opened _ _ _ _ _ _ _ _ _ _ _ _ (λ told. (leaves told (c.in_ok-manager-in-Onboard.ensures.told told)).0) clean),
+          (rests_opened _ _ _ _ _ _ _ _ _ _ _ _ (λ told. (leaves told (c.in_ok-manager-in-Onboard.ensures.told told)).0) clean)
+          (λ told. tt),
       err.1 ∙ ap Err err.2 ∙ ap onboarding_ending it.2,
     )
 
@@ -161,6 +168,54 @@ returns-in_ok-manager-in-Once-clause-does g c =
           (c.works_with_jobs_add_up.ensures.works c.load-in-Once.new.site c.make_rounds.new.site) c.in_ok-manager-in-Once.ensures.number
           c.in_ok-manager-in-Once.ensures.told start.1
           (record { works = it.1.works; does = it.1.serves; told = it.1.told })
-          (rests_opened _ _ _ _ _ _ _ _ _ _ _ _ (λ told. (leaves told (c.in_ok-manager-in-Once.ensures.told told)).0) clean),
+          (rests_opened _ _ _ _ _ _ _ _ _ _ _ _ (λ told. (leaves told (c.in_ok-manager-in-Once.ensures.told told)).0) clean)
+          (λ told. tt),
       it.4,
+    )
+
+pub returns-in_ok-manager-in-Once-clause-disk : goal.returns-in_ok-manager-in-Once-clause-disk
+returns-in_ok-manager-in-Once-clause-disk g c =
+    disk_last _ _ _ _
+    (disk_of _ _ _ (synced ⊥ _ _ (c.in_ok-manager-in-Once.ensures.counts.stays (λ wrong. cc wrong)) (λ never. never)))
+    c.make_rounds.ensures.disk
+
+pub returns-in_err-manager-in-Check-clause-does : goal.returns-in_err-manager-in-Check-clause-does
+returns-in_err-manager-in-Check-clause-does g c =
+    let why = c.in_err-manager-in-Check.field-0.0 in
+    let err = err_from_is_err_and c.from_residual-in_err-manager-in-Check.result c.from_residual-in_err-manager-in-Check.ensures.1 in
+    let leaves = c.works_add_up.ensures.jobs c.args.site.now c.load-in-Check.new.site c.load-in-Check.new.site in
+    let behind = outside (g.S.Site.state c.load-in-Check.new.site) (g.S.Site.counts c.load-in-Check.new.site) c.args.mouth.now
+    (g.O.Orchestrator.state c.args.orchestrator.now) (g.O.Orchestrator.counts c.args.orchestrator.now)
+    (g.C.Courier.state c.args.courier.now) (g.C.Courier.counts c.args.courier.now) (g.K.Clock.state c.args.clock.now) in (
+      unopened why,
+      ap loads c.in-Check.is,
+      does_not_open _ why _ behind leaves c.in_err-manager-in-Check.ensures.told c.in_err-manager-in-Check.ensures.opens
+          (rests_opened _ _ _ _ _ _ _ _ _ _ _ _ (λ told. (leaves told (c.in_err-manager-in-Check.ensures.told told)).0)
+          (unopened_fails why c.from_residual-in_err-manager-in-Check.result _ _ c.in_err-manager-in-Check.ensures.counts
+          (err.1 ∙ ap Err err.2))),
+      err.1 ∙ ap Err err.2,
+    )
+
+pub returns-in_ok-manager-in-Check-clause-does : goal.returns-in_ok-manager-in-Check-clause-does
+returns-in_ok-manager-in-Check-clause-does g c =
+    let start = c.in_ok-manager-in-Check.ensures.opens in
+    let m = c.in_ok-manager-in-Check.manager in
+    let site = c.load-in-Check.new.site in
+    let clean = synced ⊥ _ _ (c.in_ok-manager-in-Check.ensures.counts.stays (λ wrong. cc wrong)) (λ never. never) in
+    let leaves = c.works_add_up.ensures.jobs c.args.site.now site site in
+    let behind = outside (g.S.Site.state site) (g.S.Site.counts site) c.args.mouth.now
+    (g.O.Orchestrator.state c.args.orchestrator.now) (g.O.Orchestrator.counts c.args.orchestrator.now)
+    (g.C.Courier.state c.args.courier.now) (g.C.Courier.counts c.args.courier.now) (g.K.Clock.state c.args.clock.now) in (
+      opened (opening_of m start.0) counting,
+      c.in-Check.is,
+      does_activity _ m m start.0 counting _ behind behind
+          (c.works_add_up.ensures.stays site)
+          (c.works_add_up.ensures.stays site)
+          (c.works_with_jobs_add_up.ensures.follows c.args.site.now site site) leaves
+          (c.works_with_jobs_add_up.ensures.works site site) c.in_ok-manager-in-Check.ensures.number
+          c.in_ok-manager-in-Check.ensures.told start.1
+          (record { works = c.works_add_up.ensures.idles site m start.0 start.1; does = refl; told = refl })
+          (rests_opened _ _ _ _ _ _ _ _ _ _ _ _ (λ told. (leaves told (c.in_ok-manager-in-Check.ensures.told told)).0) clean)
+          c.in_ok-manager-in-Check.ensures.told,
+      ap (λ (t : Totals). Ok (Counted t)) (c.count_all.ensures start.0 start.1.keeps),
     )

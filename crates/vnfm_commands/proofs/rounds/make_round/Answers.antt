@@ -26,9 +26,9 @@ post_notices-requires g c =
     (g.C.Courier.state c.args.courier.now) (g.C.Courier.counts c.args.courier.now) (g.K.Clock.state c.now.new.self) in
     let it = c.requires.ready in
     record {
-      ready = ready_acted t c.args.role _ it.0 c.now.result _ w v
+      ready = ready_acted t c.args.role _ _ it.0 c.now.result _ w v
           (c.works_with_jobs_add_up.ensures.leads c.args.site.now c.take_turn.new.site)
-          (has_acted t c.args.role _ it.0 c.now.result _ _ w u v
+          (has_acted t c.args.role _ _ it.0 c.now.result _ _ w u v
           (c.works_with_jobs_add_up.ensures.joins c.args.site.now c.meet.new.site c.take_turn.new.site)
           (c.what_was_told_of_stays.ensures.joins c.args.site.now c.meet.new.site c.take_turn.new.site)
           (turned_behind t c.args.role c.args.manager.now _ _ c.now.result c.of-now.result _ _ w u v
@@ -46,7 +46,7 @@ returns-in_err-meet-clause-makes g c = λ H ready.
     (g.O.Orchestrator.state c.args.orchestrator.now) (g.O.Orchestrator.counts c.args.orchestrator.now)
     (g.C.Courier.state c.args.courier.now) (g.C.Courier.counts c.args.courier.now) (g.K.Clock.state c.meet.new.clock) in
     rw (err.1 ∙ ap Err err.2)
-    (round_over _ _ H c.args.role _ _ it.0 _ _ behind (c.works_with_jobs_add_up.ensures.works c.args.site.now c.meet.new.site) it.1 it.2
+    (round_over _ _ _ H c.args.role _ _ it.0 _ _ behind (c.works_with_jobs_add_up.ensures.works c.args.site.now c.meet.new.site) it.1 it.2
     it.3 c.in_err-meet.ensures.disk refl refl
     (λ is. ap (λ s. (beside (outside (g.S.Site.state s) (g.S.Site.counts s) c.meet.new.mouth
     (g.O.Orchestrator.state c.args.orchestrator.now) (g.O.Orchestrator.counts c.args.orchestrator.now)
@@ -60,7 +60,7 @@ returns-in_err-take_turn-clause-makes g c = λ H ready.
     (g.O.Orchestrator.state c.args.orchestrator.now) (g.O.Orchestrator.counts c.args.orchestrator.now)
     (g.C.Courier.state c.args.courier.now) (g.C.Courier.counts c.args.courier.now) (g.K.Clock.state c.meet.new.clock) in
     rw (err.1 ∙ ap Err err.2)
-    (round_halted _ c.args.role _ H c.now.result _ _ _ _ u _
+    (round_halted _ c.args.role _ _ H c.now.result _ _ _ _ u _
     (c.works_with_jobs_add_up.ensures.joins c.args.site.now c.meet.new.site c.take_turn.new.site)
     (c.what_was_told_of_stays.ensures.joins c.args.site.now c.meet.new.site c.take_turn.new.site)
     (turned_behind _ c.args.role c.args.manager.now _ _ c.now.result c.of-now.result _ _ _ u _
@@ -77,13 +77,13 @@ returns-clause-makes g c = λ H ready.
     let v = outside (g.S.Site.state c.take_turn.new.site) (g.S.Site.counts c.take_turn.new.site) c.meet.new.mouth
     (g.O.Orchestrator.state c.take_turn.new.orchestrator) (g.O.Orchestrator.counts c.take_turn.new.orchestrator)
     (g.C.Courier.state c.args.courier.now) (g.C.Courier.counts c.args.courier.now) (g.K.Clock.state c.now.new.self) in
-    round_posted _ c.args.role _ H c.now.result c.of-now.result _ _ _ _ _ v _
+    round_posted _ c.args.role _ _ H c.now.result c.of-now.result _ _ _ _ _ v _
     (c.works_with_jobs_add_up.ensures.leads c.args.site.now c.take_turn.new.site)
     (c.works_with_jobs_add_up.ensures.joins c.args.site.now c.take_turn.new.site c.post_notices.new.site)
     (c.what_was_told_of_stays.ensures.joins c.args.site.now c.take_turn.new.site c.post_notices.new.site)
     (c.works_with_jobs_add_up.ensures.works c.take_turn.new.site c.post_notices.new.site) c.post_notices.ensures.disk refl refl refl
     c.of-now.ensures
-    (has_acted _ c.args.role _ H c.now.result _ _ _ u v
+    (has_acted _ c.args.role _ _ H c.now.result _ _ _ u v
     (c.works_with_jobs_add_up.ensures.joins c.args.site.now c.meet.new.site c.take_turn.new.site)
     (c.what_was_told_of_stays.ensures.joins c.args.site.now c.meet.new.site c.take_turn.new.site)
     (turned_behind _ c.args.role c.args.manager.now _ _ c.now.result c.of-now.result _ _ _ u v

@@ -14,7 +14,7 @@ returns-in-Ok-clause-meets g c = λ H ready.
     let v : World = world (g.S.Site.state c.answer_session.new.site) c.answer_session.new.mouth
     (g.K.Clock.state c.answer_session.new.clock) in (
       visited (served c.in-Came.came it.0),
-      met_served _ _ H false c.in-Came.came it.0 _ _ c.args.mouth.now c.next.new.self _ v c.in-Came.ensures.told c.in-Came.ensures.cause
+      met_served _ _ _ H false c.in-Came.came it.0 _ _ c.args.mouth.now c.next.new.self _ v c.in-Came.ensures.told c.in-Came.ensures.cause
           c.next.ensures.begins c.next.ensures.unnoted it.1 it.3.1,
       it.2 ∙ c.for_connection-role.ensures,
       tt,
@@ -26,7 +26,7 @@ returns-in-Err-clause-meets g c = λ H ready.
     let v : World = world (g.S.Site.state c.answer_session.new.site) c.answer_session.new.mouth
     (g.K.Clock.state c.answer_session.new.clock) in (
       over (stopped c.in-Came.came it.0),
-      met_served _ _ H true c.in-Came.came it.0 _ _ c.args.mouth.now c.next.new.self _ v c.in-Came.ensures.told c.in-Came.ensures.cause
+      met_served _ _ _ H true c.in-Came.came it.0 _ _ c.args.mouth.now c.next.new.self _ v c.in-Came.ensures.told c.in-Came.ensures.cause
           c.next.ensures.begins c.next.ensures.unnoted it.1 it.3,
       it.2 ∙ c.for_connection-role.ensures,
       refl,
