@@ -18,7 +18,7 @@ import tempfile
 
 TOP = pathlib.Path(__file__).resolve().parent.parent
 TIMES = 7
-HEADER = b"VNFM-LCM\1" + (7).to_bytes(4, "big") + bytes(19)
+HEADER = b"VNFM-LCM\2" + (7).to_bytes(4, "big") + bytes(19)
 
 
 def built(name, place=1):

@@ -78,6 +78,11 @@ for command in "init --manager 7" onboard once; do
     expect "$command, reads before the pages are dropped" "$(sed '/^fadvise64/,$d' "$room/calls" | grep -F "$journal" | grep -c "^pread64")" 0
 done
 
+# A journal whose records lie in one block is read with its header, and all behind that at once.
+cp "$start" "$journal"
+on_journal once >"$room/names"
+expect "once, reads of the journal" "$(tr ' ' '\n' <"$room/names" | grep -c '^pread64$')" 2
+
 # How often a run syncs the journal's file, its folder and anything else, and writes to the file.
 counted() { # COMMAND [OPTION VALUE]
     command=$1
@@ -89,12 +94,16 @@ counted() { # COMMAND [OPTION VALUE]
         "$(grep -c "^ftruncate" "$room/calls") cuts"
 }
 
-# An append writes and syncs twice, a load syncs once; the making of a file syncs once, and writes and syncs three times.
+# An append writes and syncs twice, a load syncs once; the making of a file syncs once, cuts and syncs one that is longer than a byte, and writes and syncs
+# three times.
 input=/dev/null
 rm -f "$journal"
 expect "init, no file, counts" "$(counted init --manager 7)" "4 syncs, 1 of the folder, 5 in all, 3 writes, 0 cuts"
 expect "init, a journal, counts" "$(counted init --manager 7)" "1 syncs, 1 of the folder, 2 in all, 0 writes, 0 cuts"
 expect "once, no request, counts" "$(counted once)" "1 syncs, 0 of the folder, 1 in all, 0 writes, 0 cuts"
+printf 'v and more' >"$journal"
+expect "init, an unfinished file, counts" "$(counted init --manager 7)" "5 syncs, 1 of the folder, 6 in all, 3 writes, 1 cuts"
+expect "init, an unfinished file, answer" "$(cat "$room/out")" "journal made for manager 7"
 input=$here/examples/vnfd.json
 expect "onboard, counts" "$(counted onboard)" "3 syncs, 0 of the folder, 3 in all, 2 writes, 0 cuts"
 input=$request

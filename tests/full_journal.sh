@@ -22,10 +22,11 @@ import struct, sys
 
 journal, end, first = sys.argv[1], int(sys.argv[2]), int(sys.argv[3])
 MOMENT = (1_700_000_000_000).to_bytes(8)
-LEAST, MOST = 55, 2_103
+LEAST, MOST = 63, 2_111
 
 def record(content):
-    return b"\1" + struct.pack(">I", len(content)) + content
+    """A batch of one record, behind its open gate."""
+    return b"\1" + struct.pack(">II", len(content) + 4, len(content)) + content
 
 def pair(number, size):
     """The records that create an instance and delete it, of so many bytes."""
@@ -52,15 +53,16 @@ run() { # INPUT COMMAND [OPTION VALUE]
     command=$1
     shift
     "$here/vnfm" "$command" --journal "$journal" "$@" <"$input" >"$room/out" 2>"$room/err"
-    echo "status $?, $(cat "$room/err" "$room/out" | tr -d '\r' | grep -a -E '^(HTTP|done|journal full)' | sort | tr '\n' ',')" \
+    echo "status $?, $(cat "$room/err" "$room/out" | tr -d '\r' | grep -a -E '^(HTTP|done|journal full|bad record)' |
+        sed 's/^bad record [0-9]*$/bad record/' | sort | tr '\n' ',')" \
         "$(bytes_of "$journal") bytes"
 }
 
 # Another descriptor, whose record has 256 bytes.
 sed 's/vnfd-1/vnfd-2/' "$here/examples/vnfd.json" >"$room/other.json"
 
-# A try has 18 bytes, and a record 6 more, its closed gate counted: the first of two fits, and nothing behind it.
-python3 "$room/fill.py" "$journal" "$((limit - 24))" 3 || exit 1
+# A try has 18 bytes, and its batch 10 more, the closed gate behind it counted: the first of two fits, and nothing behind it.
+python3 "$room/fill.py" "$journal" "$((limit - 28))" 3 || exit 1
 expect "a turn of two acts" "$(run /dev/null once)" "status 9, journal full: $((limit - 1)) + 18 bytes, $limit bytes"
 expect "a turn behind it" "$(run /dev/null once)" "status 9, journal full: $((limit - 1)) + 18 bytes, $limit bytes"
 expect "a request, and a turn" "$(run "$request" once)" \
@@ -71,6 +73,14 @@ expect "a cancel, and a turn" "$(run "$here/examples/cancel.http" once)" \
 expect "a cancel, its detail" "$(tail -n 1 "$room/out")" '{"detail":"journal full","status":507}'
 expect "no round" "$(run /dev/null once --rounds 0)" "status 0, done after 0 rounds, $limit bytes"
 expect "a descriptor" "$(run "$room/other.json" onboard)" "status 9, journal full: $((limit - 1)) + 256 bytes, $limit bytes"
+
+# A batch that ends at the last place at which the closed gate may stand, and one that ends a byte behind it.
+for end in "$((limit - 1))" "$limit"; do
+    cp "$start" "$journal"
+    python3 "$room/fill.py" "$journal" "$end" 1 || exit 1
+    [ "$end" = "$limit" ] && wanted="status 8, bad record," || wanted="status 0, done after 1 rounds,"
+    expect "a batch that ends at $end" "$(run /dev/null once)" "$wanted $((end + 1)) bytes"
+done
 
 # A receiver that takes each notice, of which the posts are counted.
 cat >"$room/receiver.py" <<'END_OF_RECEIVER'
@@ -112,11 +122,11 @@ waiting() { # END
     python3 "$room/fill.py" "$journal" "$1" 1 || exit 1
 }
 
-# That a notice was posted has 26 bytes, and a record 6 more, its closed gate counted.
-waiting "$((limit - 31))"
-expect "a notice without room" "$(run /dev/null once)" "status 9, journal full: $((limit - 31)) + 26 bytes, $((limit - 30)) bytes"
+# That a notice was posted has 26 bytes, and its batch 10 more, the closed gate behind it counted.
+waiting "$((limit - 35))"
+expect "a notice without room" "$(run /dev/null once)" "status 9, journal full: $((limit - 35)) + 26 bytes, $((limit - 34)) bytes"
 expect "a notice without room, posts" "$(posted) bytes" "0 bytes"
-waiting "$((limit - 32))"
+waiting "$((limit - 36))"
 expect "a notice with room to the last byte" "$(run /dev/null once)" "status 0, done after 1 rounds, $limit bytes"
 expect "a notice with room to the last byte, posts" "$(posted) bytes" "3 bytes"
 expect "the notice behind it" "$(run /dev/null once)" "status 9, journal full: $((limit - 1)) + 26 bytes, $limit bytes"

@@ -518,7 +518,7 @@ class History:
         number, spelled = SPELLED[kind]
         self.moment += self.draw.choice([0, 1, 7, 250, 4_000])
         event = u8(number) + u64(self.moment) + spelled(*fields)
-        self.entries.append(u8(happens) + u32(len(event)) + event)
+        self.entries.append((happens, event))
 
     def refuse(self, kind, *fields):
         """An event that isn't allowed, where this one isn't."""

@@ -21,8 +21,8 @@ try() { # INPUT STATUS LINE MORE COMMAND [OPTION VALUE]
 
 try /dev/null 11 taken 0 init --manager 7
 try /dev/null 0 "done after 1 rounds" 0 once
-try "$here/examples/vnfd.json" 0 "onboarded vnfd-1: 2 vdus, 1 aspects, 2 levels" 261 onboard
-try "$request" 0 "done after 1 rounds" 38 once
+try "$here/examples/vnfd.json" 0 "onboarded vnfd-1: 2 vdus, 1 aspects, 2 levels" 265 onboard
+try "$request" 0 "done after 1 rounds" 42 once
 expect "once, answer" "$(head -n 1 "$room/out" | tr -d '\r')" "HTTP/1.1 201 Created"
 
 exit "$differs"

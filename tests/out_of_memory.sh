@@ -80,12 +80,12 @@ fail_each() { # WHAT DONE STARVED JOURNAL INPUT COMMAND [OPTION VALUE]
 "$here/vnfm" init --journal "$room/made" --manager 7 >/dev/null || exit 1
 fail_each init "status 0, journal made for manager 7, 33 bytes" "status 6, no memory, 0 bytes" \
     "$room/empty" /dev/null init --manager 7
-fail_each onboard "status 0, onboarded vnfd-1: 2 vdus, 1 aspects, 2 levels, 294 bytes" "status 6, no memory, 33 bytes" \
+fail_each onboard "status 0, onboarded vnfd-1: 2 vdus, 1 aspects, 2 levels, 298 bytes" "status 6, no memory, 33 bytes" \
     "$room/made" "$here/examples/vnfd.json" onboard
-fail_each once "status 0, HTTP/1.1 201 Created,done after 1 rounds, 332 bytes" "status 6, no memory, 294 bytes
-status 0, HTTP/1.1 503 Service Unavailable,done after 1 rounds, 294 bytes" "$start" "$request" once
+fail_each once "status 0, HTTP/1.1 201 Created,done after 1 rounds, 340 bytes" "status 6, no memory, 298 bytes
+status 0, HTTP/1.1 503 Service Unavailable,done after 1 rounds, 298 bytes" "$start" "$request" once
 
-# Turns of two acts, each of which records 23 bytes: tries that reach no orchestrator, and behind the fifth the moves to
+# Turns of two acts, each of which records 27 bytes: tries that reach no orchestrator, and behind the fifth the moves to
 # ROLLED_BACK. A turn is made behind each request, so the first instance is one try ahead. The input is a connection without
 # a request, which is told 503 where there is no memory to read it; the turn behind it is made.
 cp "$start" "$room/asked"
@@ -97,31 +97,31 @@ once <"$request"
 for number in 1 2; do sed "s/000000000001/00000000000$number/" "$here/examples/instantiate.http" | once; done
 turn() { # WHAT
     begun=$(bytes_of "$room/asked")
-    fail_each "$1" "status 0, done after 1 rounds, $((begun + 46)) bytes" "status 6, no memory, $begun bytes
-status 6, no memory, $((begun + 23)) bytes
-status 0, HTTP/1.1 503 Service Unavailable,done after 1 rounds, $((begun + 46)) bytes" "$room/asked" /dev/null once
+    fail_each "$1" "status 0, done after 1 rounds, $((begun + 54)) bytes" "status 6, no memory, $begun bytes
+status 6, no memory, $((begun + 27)) bytes
+status 0, HTTP/1.1 503 Service Unavailable,done after 1 rounds, $((begun + 54)) bytes" "$room/asked" /dev/null once
 }
 turn "a turn of two tries"
 
-# A cancel of the first, which records 23 bytes, and the turn behind it: a move to ROLLED_BACK and a try.
+# A cancel of the first, which records 27 bytes, and the turn behind it: a move to ROLLED_BACK and a try.
 begun=$(bytes_of "$room/asked")
-fail_each "a cancel, and the turn behind it" "status 0, HTTP/1.1 202 Accepted,done after 1 rounds, $((begun + 69)) bytes" "status 6, no memory, $begun bytes
-status 0, HTTP/1.1 503 Service Unavailable,done after 1 rounds, $((begun + 46)) bytes
-status 6, HTTP/1.1 202 Accepted,no memory, $((begun + 23)) bytes
-status 6, HTTP/1.1 202 Accepted,no memory, $((begun + 46)) bytes" "$room/asked" "$here/examples/cancel.http" once
+fail_each "a cancel, and the turn behind it" "status 0, HTTP/1.1 202 Accepted,done after 1 rounds, $((begun + 81)) bytes" "status 6, no memory, $begun bytes
+status 0, HTTP/1.1 503 Service Unavailable,done after 1 rounds, $((begun + 54)) bytes
+status 6, HTTP/1.1 202 Accepted,no memory, $((begun + 27)) bytes
+status 6, HTTP/1.1 202 Accepted,no memory, $((begun + 54)) bytes" "$room/asked" "$here/examples/cancel.http" once
 
 once --rounds 3 </dev/null
 turn "a turn of a move and a try"
 
-# A delivery of a notice that nobody takes, which records 31 bytes.
+# A delivery of a notice that nobody takes, which records 35 bytes.
 cp "$start" "$room/asked"
 body='{"callbackUri":"http://127.0.0.1:1/n"}'
 printf 'POST /vnflcm/v1/subscriptions HTTP/1.1\r\nContent-Length: %s\r\n\r\n%s' "${#body}" "$body" >"$room/subscribe"
 once <"$room/subscribe"
 once <"$request"
 begun=$(bytes_of "$room/asked")
-fail_each "a delivery" "status 0, done after 1 rounds, $((begun + 31)) bytes" "status 6, no memory, $begun bytes
-status 0, HTTP/1.1 503 Service Unavailable,done after 1 rounds, $((begun + 31)) bytes" "$room/asked" /dev/null once
+fail_each "a delivery" "status 0, done after 1 rounds, $((begun + 35)) bytes" "status 6, no memory, $begun bytes
+status 0, HTTP/1.1 503 Service Unavailable,done after 1 rounds, $((begun + 35)) bytes" "$room/asked" /dev/null once
 
 # A turn of two grants, which the program doesn't reach yet, and deliveries to two receivers that take what they are told:
 # lcm_cases plays them over the objects in memory. Where an allocation of what it reads or plays the run with fails, it says

@@ -46,9 +46,20 @@ def shared(title, text):
     return NAMED[text]
 
 
+def batch_front(size):
+    """What stands before the bytes of a record of so many bytes that is the only one of its batch: the open gate, the length of the content, and its own."""
+    return u8(1) + u32(size + 4) + u32(size)
+
+
+def in_batch(*events):
+    """A batch behind its open gate: the length of its content, and a record of each of these events, with its length."""
+    content = b"".join(u32(len(it)) + it for it in events)
+    return latin(u8(1) + u32(len(content)) + content)
+
+
 def in_record(event):
-    """A record behind its open gate: its length and the event."""
-    return latin(u8(1) + u32(len(event)) + event)
+    """A batch of one record."""
+    return in_batch(event)
 
 
 def record(kind, *fields, moment=NOW):
@@ -103,13 +114,17 @@ def does(place, verb, kind, template, vdu, serial, *on):
     return ["does", place, " ".join([verb, kind, template, vdu, str(serial), "vim1", "", str(size), str(cpus), *on])]
 
 
-HEADER = let("HEADER", latin(b"VNFM-LCM" + u8(1) + u32(7) + bytes(19)))
+
+
+def header(manager):
+    """The first 32 bytes of a journal of this manager."""
+    return b"VNFM-LCM" + u8(2) + u32(manager) + bytes(19)
+
+
+HEADER = let("HEADER", latin(header(7)))
 UNOPENED = "unopened: site fault"
-
-
-def calls_to_open(records):
-    """The disk calls that open a journal: a sync, the length, the header, the head and the bytes of each record, and the closed gate."""
-    return 4 + 2 * records
+# The disk calls that open a journal of at most 65,536 bytes behind its header: a sync, the length, the header, and all behind it at once.
+CALLS_TO_OPEN = 4
 
 
 def with_records(*events):

@@ -54,6 +54,7 @@ run(
 run(
     "texts are asked for by their words",
     ["page", ["once", "--help"], "vnfm once --journal PATH [OPTION..]    answer the requests on standard input"],
+    ["page", ["check", "--help"], "vnfm check --journal PATH    count what the journal at PATH has, and change nothing\n"],
     ["page", ["--version"], "vnfm 0.1.0\n"],
     ["page", ["--version", "more"], ""],
 )
@@ -125,12 +126,23 @@ def no_value(word, option, wanted, *words):
 
 
 run(
+    "check sets what it names, and takes nothing else",
+    set_by(["check", "--journal", "check"], "Check", "check"),
+    *no_command("--journal PATH is missing", "check"),
+    *no_command('"--journal" has no value', "check", "--journal"),
+    *not_understood("--rounds", "check", *AT_J, "--rounds", "1"),
+    *not_understood("--role", "check", *AT_J, "--role", "em"),
+    *not_understood("--manager", "check", "--manager", "7", *AT_J),
+    *stands_twice("--journal", "check", *AT_J, *AT_J),
+    *no_value("-j", "--journal", TEXT, "check", "--journal", "-j"),
+    *not_understood("Check", "Check", *AT_J),
+)
+run(
     "words that are no command are told apart",
     *no_command("a command is missing"),
     *not_understood("--journal", *AT_J, "once"),
     *not_understood("Once", "Once", *AT_J),
     *not_built("serve", *AT_J),
-    *not_built("check", *AT_J),
     *not_built("trial", "--start", "1", "--count", "1"),
     *not_understood("migrate", "migrate", *AT_J),
     *not_understood("--", "--", *ONCE),

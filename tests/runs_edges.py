@@ -1,7 +1,7 @@
 """The runs that start the program over a file and streams in memory, of whose calls some go wrong."""
 import cases
 from cases import latin, name, u8, u32, u64
-from run_parts import NOW, begin, run
+from run_parts import NOW, batch_front, begin, run
 
 begin(__name__)
 
@@ -9,6 +9,7 @@ USAGE = "usage: vnfm init|onboard|once|serve|check|trial\n"
 INIT = ["init", "--journal", "j", "--manager", "7"]
 ONBOARD = ["onboard", "--journal", "j"]
 ONCE = ["once", "--journal", "j"]
+CHECK = ["check", "--journal", "j"]
 IS_MADE = "journal made for manager 7\n"
 IS_ONBOARDED = "onboarded vnfd-1: 0 vdus, 0 aspects, 1 levels\n"
 DONE = "done after 1 rounds\n"
@@ -21,7 +22,7 @@ MADE, JOURNAL, JOURNAL_1, DESCRIPTOR = "$MADE", "$JOURNAL", "$JOURNAL_1", "$DESC
 CREATE, CREATED, FAULT = "$CREATE", "$CREATED_1", "$FAULT"
 CREATION = cases.event(2, u64(1), name("vnfd-1"), u8(1), name("edge-1"), u8(0), moment=NOW)
 # The journal behind an append whose first sync failed: the record stands behind a gate that is closed.
-UNSAFE = ["$HEADER", "$ONBOARDED", latin(u8(0) + u32(len(CREATION)) + CREATION + u8(0))]
+UNSAFE = ["$HEADER", "$ONBOARDED", latin(u8(0) + batch_front(len(CREATION))[1:] + CREATION + u8(0))]
 WHOLE = 1_000_000
 
 
@@ -90,7 +91,15 @@ for kind, why in CAUSES:
     )
 run(
     "a file can't be made where there is no folder",
-    *[site_fault(words, NO_FOLDER, wrong=wrong("create", "NotFound")) for words in (INIT, ONBOARD, ONCE)],
+    *[site_fault(words, NO_FOLDER, wrong=wrong("create", "NotFound")) for words in (INIT, ONBOARD, ONCE, CHECK)],
+)
+run(
+    "check is told on standard output, and leaves the file",
+    starts(CHECK, 0, "records 1, instances 0, ongoing 0, subscriptions 0\n", "", file=JOURNAL, input=CREATE, left=JOURNAL),
+    starts(CHECK, 5, "no journal\n", "vnfm: \"j\": it is not a journal that init has finished\n", 1, left=""),
+    starts(CHECK, 0, "records 0, instances 0, ongoing 0, subscriptions 0\n", "", file=MADE, left=MADE),
+    site_fault(CHECK, LOCKED, file=JOURNAL, wrong=wrong("lock", "WouldBlock")),
+    *[site_fault(CHECK, DISK, file=JOURNAL, left=JOURNAL, wrong=wrong(call)) for call in ("length", "read", "sync")],
 )
 run("what is no regular file can't be had", site_fault(ONCE, NOT_A_FILE, file=JOURNAL, wrong=wrong("regular")))
 run(
@@ -194,6 +203,7 @@ run(
 run(
     "a line that is cut short is not put",
     starts(INIT, 7, "journal m", NO_LINE, 1, left=MADE, wrong=wrong("print", piece=9)),
+    starts(CHECK, 7, "records 1", NO_LINE, file=JOURNAL, left=JOURNAL, wrong=wrong("print", piece=9)),
     starts(ONCE, 7, "", "done" + NO_LINE, file=JOURNAL, left=JOURNAL, wrong=wrong("tell", piece=4)),
     starts(ONCE, 5, "", 'no journal\nvnfm: "j', 1, left="", wrong=wrong("tell", first=2, piece=8)),
     starts(["--version"], 7, "vnfm", "", wrong=wrong("print", piece=4)),

@@ -7,7 +7,7 @@ import json
 
 import cases
 from cases import heal, instantiate, latin, level, operate, scale_to, terminate, u8, u16, u32, utf8, vdu
-from run_parts import begin, in_record, run
+from run_parts import batch_front, begin, in_record, run
 from runs_plans import FRESH, IN, NO_VDU, ONE_LESS, ONE_MORE, OUT, PARTIAL, STOPPED, STOPPING, TERMINATED, THIRTEEN, THREE_STARTS, THREE_STOPS, TWO
 from runs_plans import WIDE, called, changes_of, granted_first, making, many, of, removing
 
@@ -249,7 +249,7 @@ def long_answer(last, record):
 
 
 HALVES = cases.granted(2, "g1", [("", ""), ("v", "")], [])[:-2] + u16(LAST + 1)
-HALVES = [latin(u8(1) + u32(len(HALVES) + LAST + 1) + HALVES), {"times": 1_242, "of": "\0"}, {"times": 1_242, "of": "\1"}]
+HALVES = [latin(batch_front(len(HALVES) + LAST + 1) + HALVES), {"times": 1_242, "of": "\0"}, {"times": 1_242, "of": "\1"}]
 run(
     "a grant of 2,484 changes is covered or lacks one",
     *[*long_answer(LAST + 1, HALVES), *long_answer(LAST, [in_record(cases.grant_misses(2))])],

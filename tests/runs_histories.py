@@ -101,9 +101,8 @@ def judged(h, allowed=(), step=25):
     def opened(text, *more):
         acts.extend([["site", ["$HISTORY", *more, "\0"]], ["opened", text]])
 
-    for place, entry in enumerate(h.entries):
-        event = entry[5:]
-        if entry[0]:
+    for place, (happens, event) in enumerate(h.entries):
+        if happens:
             behind.append(in_record(event))
             counts.follow(event)
             if counts.records % step == 0 or counts.records in h.shown:
@@ -701,7 +700,7 @@ def posts(title, *events, last, subscriptions):
     for event, *firsts in events:
         if event:
             story.happen(*event)
-            last_event = story.entries[-1][5:]
+            _, last_event = story.entries[-1]
             counts.follow(last_event)
             acts.append(["let", "HISTORY", ["$HISTORY", in_record(last_event)]])
         for number, first in zip(subscriptions, firsts):
@@ -731,7 +730,7 @@ def hundreds_of_notices():
     def happens(*events):
         before = len(story.entries)
         story.happen_each(*events)
-        acts.append(["let", "HISTORY", ["$HISTORY", "".join(in_record(it[5:]) for it in story.entries[before:])]])
+        acts.append(["let", "HISTORY", ["$HISTORY", "".join(in_record(it) for _, it in story.entries[before:])]])
 
     def come_and_go(count, first):
         happens(*[it for n in range(first, first + count) for it in (create(n), ("deleted", n))])

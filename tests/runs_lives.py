@@ -200,7 +200,7 @@ for title, life in LIVES.items():
     run(
         "an instance lives from its creation to its deletion by each operation, asked for by %s" % title,
         *[*BEGUN, *life.plays(), ["status", 0], ["told", GONE], ["file", life.whole()], ["bodies", bodies_of(life)]],
-        *[["moment", 6 + 4 * life.records + 2 * life.jobs], ["calls", life.jobs, life.jobs, 0], ["faults", 0, 0, 0, 0]],
+        *[["moment", 4 + 4 * life.records + 2 * life.jobs], ["calls", life.jobs, life.jobs, 0], ["faults", 0, 0, 0, 0]],
         *[["done jobs", *[it for operation in life.operations for it in range(len(operation.changes))]]],
         *[["does", place, it] for place, it in enumerate(works_of(life))],
         *[answers(GETS_ALL, in_pieces(showing(views.occurrences(history_then)))), ["stays"], answers(request("GET", INSTANCE % 1), NO_INSTANCE), ["stays"]],

@@ -2,6 +2,7 @@
 
 What is posted is a line of the status that came of it, or `fail`, the callback and the body. All texts are written by hand, none by the model."""
 from run_operations import *
+from runs_commands import EVENTS
 from runs_subscriptions import *
 
 begin(__name__)
@@ -65,6 +66,14 @@ run(
     "a creation is posted, and that it was is recorded",
     *[journal_with(FIRST_SUBSCRIBED, CREATION[1]), ["waits", 1, 3], ["deliveries", "1 0"], ["posted", "204 http://127.0.0.1:9900/n %s\n" % CREATION_TEXT]],
     *[["file", [HEADER, *CREATED_RECORDS, POSTED, "\0"]], ["waits", 1, 0], ["deliveries", "0 0"], ["posted", ""], ["stays"]],
+)
+# Four calls open the journal, a read holds all of it, and four append that it was posted.
+IN_ONE = let("IN_ONE", [HEADER, in_batch(EVENTS[0], working.spelled(subscribed(1)), EVENTS[1], cases.deleted(1))])
+run(
+    "the notices of a batch are posted one after the other, and each is recorded in a batch of its own",
+    *[["site", [IN_ONE, "\0"]], ["deliveries", "1 0"], ["moment", 9], ["posted", "204 http://127.0.0.1:9900/n %s\n" % CREATION_TEXT]],
+    *[["file", [IN_ONE, POSTED, "\0"]], ["waits", 1, 4], ["deliveries", "1 0"], ["posted", post_of(1, 4, WAS_DELETED)]],
+    *[["file", [IN_ONE, POSTED, of_record(("posted", 1, 4, 0)), "\0"]], ["waits", 1, 0], ["deliveries", "0 0"], ["posted", ""], ["stays"]],
 )
 run(
     "that an operation is asked for is posted",

@@ -8,7 +8,7 @@ import json
 
 import cases
 from cases import aspect, heal, instantiate, latin, level, operate, port, scale, scale_aspects, scale_to, storage, terminate, u8, u16, u32, vdu
-from run_parts import HEADER, begin, does, in_record, let, run
+from run_parts import HEADER, batch_front, begin, does, in_record, let, run
 from run_texts import worked
 
 begin(__name__)
@@ -372,7 +372,7 @@ def many(story, ask, first, count):
     spelled = lambda phase, *part: cases.change(phase, "create", *part, 0, 0)[:-4]
     parts = [serials(spelled(1, "STORAGE", 0)), serials(spelled(2, "COMPUTE", 0)), serials(spelled(3, "PORT", 0), spelled(3, "PORT", 1))]
     event = story.asked(ask, [])
-    return [latin(u8(1) + u32(len(event) + 4 * count * CHANGE_BYTES) + event[:-2] + u16(4 * count)), *parts]
+    return [latin(batch_front(len(event) + 4 * count * CHANGE_BYTES) + event[:-2] + u16(4 * count)), *parts]
 
 
 def scaled(story, steps, opened):

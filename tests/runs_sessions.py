@@ -8,7 +8,7 @@ begin(__name__)
 
 run(
     "a creation is told once it is on the disk, in one write",
-    *[["site", JOURNAL], answers(CREATE, CREATED[1]), ["file length", 149], ["file", JOURNALS[1]]],
+    *[["site", JOURNAL], answers(CREATE, CREATED[1]), ["file length", 157], ["file", JOURNALS[1]]],
 )
 
 
@@ -107,8 +107,8 @@ run(
 )
 run(
     "a creation is answered, and a repeat is one more",
-    *[["site", JOURNAL], once(CREATE, CREATED[1]), ["printed", "done after 1 rounds\n"], ["clock", 2], ["file length", 149]],
-    *[["file", JOURNALS[1]], once(CREATE, CREATED[2]), ["file length", 187], ["file", JOURNALS[2]]],
+    *[["site", JOURNAL], once(CREATE, CREATED[1]), ["printed", "done after 1 rounds\n"], ["clock", 2], ["file length", 157]],
+    *[["file", JOURNALS[1]], once(CREATE, CREATED[2]), ["file length", 199], ["file", JOURNALS[2]]],
 )
 
 
@@ -158,7 +158,7 @@ def nested(arrays):
 
 
 def is_taken(text):
-    return [["site", JOURNAL], once(text), ["status", 0], ["told front", "HTTP/1.1 201 Created\r\n"], ["grown", 31]]
+    return [["site", JOURNAL], once(text), ["status", 0], ["told front", "HTTP/1.1 201 Created\r\n"], ["grown", 35]]
 
 
 run(

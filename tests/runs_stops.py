@@ -141,9 +141,9 @@ for n in range(5):
 
 # ---- More than one call that fails
 
-# The eight calls that open the journal, and the first write of a record.
+# The four calls that open the journal, and the first write of a record.
 run(
     "two lives whose first write fails are made up for by the next one",
-    *[["fault", 9, 18], SITE, *[act for _ in range(2) for act in (rounds(29, INSTANTIATE), ["status", 3], ["told", FAULT])]],
+    *[["fault", 5, 10], SITE, *[act for _ in range(2) for act in (rounds(29, INSTANTIATE), ["status", 3], ["told", FAULT])]],
     *[["faults", 2, 0, 0, 0], asks(29), steps(*WHOLE), ["faults", 2, 0, 0, 0], ["jobs", 13, 13]],
 )

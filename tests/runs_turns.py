@@ -163,8 +163,8 @@ def with_fault(instances, call, granted, *turns):
     return acts
 
 
-for number in range(1, 31):
-    first, second = calls_to_open(3), calls_to_open(3) + 4 + calls_to_open(4)
+for number in range(1, 17):
+    first, second = CALLS_TO_OPEN, CALLS_TO_OPEN + 4 + CALLS_TO_OPEN
     grant, work_too = [LINKS_GRANTED[0]], [LINKS_GRANTED[0], WORKING[0]]
     if number <= first:
         expected = (UNOPENED, []), (ONE, grant)
@@ -184,7 +184,7 @@ for number in range(8):
     follow = [LINKS_GRANTED[0], WORKING[0], LINKS_GRANTED[1], WORKING[1]] if granted_then == 1 else [*LINKS_GRANTED, *WORKING]
     run(
         "the acts before a disk call that fails stand: call %d" % number,
-        *with_fault(2, calls_to_open(5) + 1 + number, 4, ("site fault", follow[:granted_then])),
+        *with_fault(2, CALLS_TO_OPEN + 1 + number, 4, ("site fault", follow[:granted_then])),
         *[["peer calls", begun + 1, 0, 0], *peer_turns(TWO), ["file front", links_asked(2, 2, *follow[: granted_then + 2])]],
         ["peer calls", begun + 3 - granted_then, 0, 0],
     )

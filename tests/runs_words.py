@@ -7,7 +7,7 @@ places and a view are written out by hand.
 import json
 
 from cases import *
-from run_parts import HEADER, NOW, begin, in_record, let, opens, problem, run, showing, told_back
+from run_parts import HEADER, NOW, batch_front, begin, header, in_record, let, opens, problem, run, showing, told_back
 from run_texts import ACCEPTED, BAD, EMPTY_LIST, INSTANCE, INSTANCES, INSTANTIATE, JOURNAL, JOURNALS, MADE, NOT_ALLOWED, NO_FILTER, NO_INSTANCE
 from run_texts import NO_JSON, NO_OCCURRENCE, NO_RESOURCE, NO_TASK, OCCURRENCE, OCCURRENCES, ONLY_DELETE_GET, ONLY_POST, answers, idle, occurrence_view
 from run_texts import once, refused, request
@@ -27,10 +27,6 @@ def written(value):
     return utf8(json.dumps(value, sort_keys=True, separators=(",", ":"), ensure_ascii=False))
 
 
-def header(manager):
-    return latin(b"VNFM-LCM" + u8(1) + u32(manager) + bytes(19))
-
-
 def records(events):
     """The records of these events; a text stands for itself."""
     return [it if isinstance(it, (str, dict)) else in_record(it) for it in events]
@@ -42,7 +38,7 @@ def known(title, *events):
 
 
 def site(*events, manager=7):
-    return ["site", [header(manager), *records(events), "\0"]]
+    return ["site", [latin(header(manager)), *records(events), "\0"]]
 
 
 def view_at(path, view):
@@ -58,7 +54,7 @@ FAR_ID, SOON_ID = "ffffffff-766d-8001-8000-0000000000ab", "ffffffff-766d-8001-80
 
 def counted(event, *numbers_at):
     """The parts of the record of an event, with the bytes of the number in place of those at these places, each with how many there are."""
-    parts, at = [u8(1) + u32(len(event))], 0
+    parts, at = [batch_front(len(event))], 0
     for place, size in numbers_at:
         parts[-1] += event[at:place]
         parts += [{"bytes": size}, b""]
@@ -190,7 +186,7 @@ run(
 )
 LONG_FRONT = said(b"n", b"")[:-2]
 for length, text in (2_048, CREATED_IT), (2_049, "bad record 2"):
-    line_record = [latin(u8(1) + u32(len(LONG_FRONT) + 2 + length) + LONG_FRONT + u16(length)), {"times": length, "of": "x"}]
+    line_record = [latin(batch_front(len(LONG_FRONT) + 2 + length) + LONG_FRONT + u16(length)), {"times": length, "of": "x"}]
     run("a line of %d bytes in a record" % length, ["site", [HEADER, in_record(SIMPLE), *line_record, "\0"]], ["opened", text])
 run(
     "names stand in the order of their bytes, each once",
@@ -343,7 +339,7 @@ LONGEST_SIZE = 9 + len(LONGEST) + 3 * (2 + 64 * 256) + 6
 
 
 def longest(size, *end):
-    return ["site", [HEADER, latin(u8(1) + u32(size) + event(13, LONGEST)), *VALUES * 3, "\0" * 6, *end, "\0"]]
+    return ["site", [HEADER, latin(batch_front(size) + event(13, LONGEST)), *VALUES * 3, "\0" * 6, *end, "\0"]]
 
 
 run(
@@ -370,7 +366,7 @@ LAST = 65_536 - REST - 251 * 260 - 5
 run(
     "an event of a descriptor has 65,536 bytes and no more",
     *[["site", MADE], ["door", many_ports(LAST)], ONBOARD, ["status", 0], ["printed", "onboarded w: 1 vdus, 0 aspects, 1 levels\n"]],
-    *[["grown", 65_541], ["site", MADE], *not_onboarded(many_ports(LAST + 1), "encodes to 65537 bytes")],
+    *[["grown", 65_545], ["opened", "1 records, 1 descriptors, 0 instances, 0 live"], ["site", MADE], *not_onboarded(many_ports(LAST + 1), "encodes to 65537 bytes")],
 )
 
 

@@ -28,8 +28,8 @@ TOLD = journal_with(FIRST_SUBSCRIBED, CREATION[1])
 run("to go wrong: a post", TOLD, ["deliveries", "1 0"], ["posted", post_of(1, 3, WAS_CREATED, status=500)])
 run("to go wrong: a notice that waits", TOLD, ["waits", 1, 4])
 
-# Acts within acts, by the first stop or front, with the number of the others. Behind the eight calls that open the journal, four records are four
-# calls each, and then a job is begun: of the moments 0 to 25 only the last has it.
+# Acts within acts, by the first stop or front, with the number of the others. Behind the four calls that open the journal, four records are four
+# calls each, and then a job is begun: of the moments 0 to 21 only the last has it.
 run(
     "to go wrong: the job at each stop but the last",
     *[SITE, asks(3), life([], [*made(0), forward(0, 1, "intent")]), ["each stop", "old", ["left"], ["job count", 1]]],

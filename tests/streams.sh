@@ -41,22 +41,22 @@ for closed in '' 0 1 2 01 02 12 012; do
         init --journal "$journal" --manager 7
     input=$here/examples/vnfd.json
     if [ "$read" = yes ]; then
-        try "onboard, closed $closed" "$room/made" "$redirections" "$out" 294 "201 Created instance 1" onboard --journal "$journal"
+        try "onboard, closed $closed" "$room/made" "$redirections" "$out" 298 "201 Created instance 1" onboard --journal "$journal"
     else
         try "onboard, closed $closed" "$room/made" "$redirections" 10 33 "422 Unprocessable Content" onboard --journal "$journal"
     fi
     input=$request
     if [ "$read" = yes ]; then
-        try "once, closed $closed" "$start" "$redirections" "$err" 332 "201 Created instance 2" once --journal "$journal"
+        try "once, closed $closed" "$start" "$redirections" "$err" 340 "201 Created instance 2" once --journal "$journal"
     else
-        try "once, closed $closed" "$start" "$redirections" "$err" 294 "201 Created instance 1" once --journal "$journal"
+        try "once, closed $closed" "$start" "$redirections" "$err" 298 "201 Created instance 1" once --journal "$journal"
     fi
     printf 'no request' >"$room/refused"
     input=$room/refused
-    try "a refused request, closed $closed" "$start" "$redirections" "$err" 294 "201 Created instance 1" once --journal "$journal"
-    try "no command, closed $closed" "$start" "$redirections" 2 294 "201 Created instance 1" never --journal "$journal"
-    try "--version, closed $closed" "$start" "$redirections" "$out" 294 "201 Created instance 1" --version
-    try "--help, closed $closed" "$start" "$redirections" "$out" 294 "201 Created instance 1" --help
+    try "a refused request, closed $closed" "$start" "$redirections" "$err" 298 "201 Created instance 1" once --journal "$journal"
+    try "no command, closed $closed" "$start" "$redirections" 2 298 "201 Created instance 1" never --journal "$journal"
+    try "--version, closed $closed" "$start" "$redirections" "$out" 298 "201 Created instance 1" --version
+    try "--help, closed $closed" "$start" "$redirections" "$out" 298 "201 Created instance 1" --help
 done
 
 # A pipe whose reader is gone, as descriptor 4.
@@ -69,15 +69,15 @@ for redirection in '>/dev/full' '>&4'; do
     try "init, 1$redirection" none "1$redirection" 7 33 "422 Unprocessable Content" init --journal "$journal" --manager 7
     try "init, 2$redirection" none "2$redirection" 0 33 "422 Unprocessable Content" init --journal "$journal" --manager 7
     input=$here/examples/vnfd.json
-    try "onboard, 1$redirection" "$room/made" "1$redirection" 7 294 "201 Created instance 1" onboard --journal "$journal"
-    try "onboard, 2$redirection" "$room/made" "2$redirection" 0 294 "201 Created instance 1" onboard --journal "$journal"
+    try "onboard, 1$redirection" "$room/made" "1$redirection" 7 298 "201 Created instance 1" onboard --journal "$journal"
+    try "onboard, 2$redirection" "$room/made" "2$redirection" 0 298 "201 Created instance 1" onboard --journal "$journal"
     input=$request
-    try "once, 1$redirection" "$start" "1$redirection" 0 332 "201 Created instance 2" once --journal "$journal"
-    try "once, 2$redirection" "$start" "2$redirection" 7 332 "201 Created instance 2" once --journal "$journal"
+    try "once, 1$redirection" "$start" "1$redirection" 0 340 "201 Created instance 2" once --journal "$journal"
+    try "once, 2$redirection" "$start" "2$redirection" 7 340 "201 Created instance 2" once --journal "$journal"
     input=$room/refused
-    try "a refused request, 1$redirection" "$start" "1$redirection" 0 294 "201 Created instance 1" once --journal "$journal"
-    try "no command, 1$redirection" "$start" "1$redirection" 2 294 "201 Created instance 1" never --journal "$journal"
-    try "--version, 1$redirection" "$start" "1$redirection" 7 294 "201 Created instance 1" --version
+    try "a refused request, 1$redirection" "$start" "1$redirection" 0 298 "201 Created instance 1" once --journal "$journal"
+    try "no command, 1$redirection" "$start" "1$redirection" 2 298 "201 Created instance 1" never --journal "$journal"
+    try "--version, 1$redirection" "$start" "1$redirection" 7 298 "201 Created instance 1" --version
 done
 exec 4>&-
 

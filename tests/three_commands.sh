@@ -1,6 +1,6 @@
 #!/bin/sh
-# The three commands of the README on a real file: a journal is made, a descriptor onboarded, an instance created. Each is then
-# tried again, with words too many, and for its help. Standard output and standard error are compared apart.
+# The commands of the README on a real file: a journal is made, a descriptor onboarded, an instance created, and what there is
+# counted. Each is then tried again, with words too many, and for its help. Standard output and standard error are compared apart.
 . "$(dirname "$0")/common.sh"
 
 journal=$room/journal
@@ -32,7 +32,7 @@ usage="usage: vnfm init|onboard|once|serve|check|trial"
 try "init" /dev/null 0 "journal made for manager 7" "" 33 init --journal "$journal" --manager 7
 expect "init, lines of standard output" "$(wc -l <"$room/out" | tr -d ' ')" 1
 expect "init, the journal" "$(od -An -tx1 -v "$journal" | tr -d ' \n')" \
-    564e464d2d4c434d01000000070000000000000000000000000000000000000000
+    564e464d2d4c434d02000000070000000000000000000000000000000000000000
 try "init again" /dev/null 11 "taken" \
     "vnfm: \"$journal\": it is a journal already, or no file of this program's; give another path, or move it away" \
     33 init --journal "$journal" --manager 7
@@ -41,57 +41,63 @@ try "a creation without a descriptor" "$request" 0 "HTTP/1.1 422 Unprocessable C
 expect "a creation without a descriptor, answer" "$(tail -n 1 "$room/out")" '{"detail":"vnfdId is not onboarded","status":422}'
 try "onboard nothing" /dev/null 10 "descriptor refused: not JSON" "vnfm: $(no_json 1 0)" 33 \
     onboard --journal "$journal"
-try "onboard" "$descriptor" 0 "onboarded vnfd-1: 2 vdus, 1 aspects, 2 levels" "" 294 onboard --journal "$journal"
+try "onboard" "$descriptor" 0 "onboarded vnfd-1: 2 vdus, 1 aspects, 2 levels" "" 298 onboard --journal "$journal"
 expect "onboard, lines of standard output" "$(wc -l <"$room/out" | tr -d ' ')" 1
-try "onboard again" "$descriptor" 10 "descriptor refused: vnfdId is onboarded" "vnfm: $refused" 294 \
+try "onboard again" "$descriptor" 10 "descriptor refused: vnfdId is onboarded" "vnfm: $refused" 298 \
     onboard --journal "$journal"
 sed 's/,"default_level":"normal"//' "$descriptor" >"$room/levels.json"
 try "onboard without a default level" "$room/levels.json" 10 "descriptor refused: missing default_level" \
-    "vnfm: $refused" 294 onboard --journal "$journal"
-try "once" "$request" 0 "HTTP/1.1 201 Created" "done after 1 rounds" 332 once --journal "$journal"
+    "vnfm: $refused" 298 onboard --journal "$journal"
+try "once" "$request" 0 "HTTP/1.1 201 Created" "done after 1 rounds" 340 once --journal "$journal"
 expect "once, bytes of the body" "$(sed -n 's/^Content-Length: //p' "$room/out" | tr -d '\r')" 422
-try "once again" "$request" 0 "HTTP/1.1 201 Created" "done after 1 rounds" 370 once --journal "$journal"
+try "once again" "$request" 0 "HTTP/1.1 201 Created" "done after 1 rounds" 382 once --journal "$journal"
 expect "once again, Location" "$(sed -n 2p "$room/out" | tr -d '\r')" \
     "Location: /vnflcm/v1/vnf_instances/00000007-766d-8001-8000-000000000002"
+try "check" "$request" 0 "records 3, instances 2, ongoing 0, subscriptions 0" "" 382 check --journal "$journal"
+expect "check, lines of standard output" "$(wc -l <"$room/out" | tr -d ' ')" 1
+try "check again" "$request" 0 "records 3, instances 2, ongoing 0, subscriptions 0" "" 382 check --journal "$journal"
 
 # Words too many, too few, or not understood: status 2, and the journal stays.
-try "once with a word too many" "$request" 2 "$usage" "$(unclear more)" 370 once --journal "$journal" more
-try "onboard with words too many" "$descriptor" 2 "$usage" "$(unclear --manager)" 370 \
+try "check with a word too many" "$request" 2 "$usage" "$(unclear --rounds)" 382 check --journal "$journal" --rounds 1
+try "once with a word too many" "$request" 2 "$usage" "$(unclear more)" 382 once --journal "$journal" more
+try "onboard with words too many" "$descriptor" 2 "$usage" "$(unclear --manager)" 382 \
     onboard --journal "$journal" --manager 7
-try "init with a word too many" /dev/null 2 "$usage" "$(unclear 8)" 370 init --journal "$journal" --manager 7 8
-try "init without a manager" /dev/null 2 "$usage" "vnfm: --manager N is missing; vnfm --help says more" 370 \
+try "init with a word too many" /dev/null 2 "$usage" "$(unclear 8)" 382 init --journal "$journal" --manager 7 8
+try "init without a manager" /dev/null 2 "$usage" "vnfm: --manager N is missing; vnfm --help says more" 382 \
     init --journal "$journal"
 try "a manager past the last" /dev/null 2 "$usage" \
-    "$(no_value 4294967296 --manager "a number from 0 to 4294967295, in at most 20 digits")" 370 \
+    "$(no_value 4294967296 --manager "a number from 0 to 4294967295, in at most 20 digits")" 382 \
     init --journal "$journal" --manager 4294967296
-try "no journal named" "$request" 2 "$usage" "vnfm: --journal PATH is missing; vnfm --help says more" 370 once
-try "an option for a path" "$request" 2 "$usage" "$(no_value --manager --journal "a word that doesn't begin with -")" 370 \
+try "no journal named" "$request" 2 "$usage" "vnfm: --journal PATH is missing; vnfm --help says more" 382 once
+try "an option for a path" "$request" 2 "$usage" "$(no_value --manager --journal "a word that doesn't begin with -")" 382 \
     once --journal --manager
-try "an option twice" "$request" 2 "$usage" 'vnfm: "--rounds" stands twice; vnfm --help says more' 370 \
+try "an option twice" "$request" 2 "$usage" 'vnfm: "--rounds" stands twice; vnfm --help says more' 382 \
     once --journal "$journal" --rounds 1 --rounds 1
-try "an option joined to its value" "$request" 2 "$usage" "$(unclear --rounds=2)" 370 once --journal "$journal" --rounds=2
-try "an option without a value" "$request" 2 "$usage" 'vnfm: "--rounds" has no value; vnfm --help says more' 370 \
+try "an option joined to its value" "$request" 2 "$usage" "$(unclear --rounds=2)" 382 once --journal "$journal" --rounds=2
+try "an option without a value" "$request" 2 "$usage" 'vnfm: "--rounds" has no value; vnfm --help says more' 382 \
     once --journal "$journal" --rounds
-try "no round" "$request" 0 "" "done after 0 rounds" 370 once --rounds 0 --journal "$journal"
-try "no word" "$request" 2 "$usage" "vnfm: a command is missing; vnfm --help says more" 370
-try "a word with a line feed" "$request" 2 "$usage" "$(unclear 'a\nb')" 370 "$(printf 'a\nb')"
-try "--help and a word" /dev/null 2 "$usage" "$(unclear --help)" 370 --help once
+try "no round" "$request" 0 "" "done after 0 rounds" 382 once --rounds 0 --journal "$journal"
+try "no word" "$request" 2 "$usage" "vnfm: a command is missing; vnfm --help says more" 382
+try "a word with a line feed" "$request" 2 "$usage" "$(unclear 'a\nb')" 382 "$(printf 'a\nb')"
+try "--help and a word" /dev/null 2 "$usage" "$(unclear --help)" 382 --help once
 
 # The texts, alone and of each command.
-try "--version" /dev/null 0 "vnfm 0.1.0" "" 370 --version
-try "--help" /dev/null 0 "vnfm: a VNF lifecycle manager after ETSI GS NFV-SOL 003 V2.6.1" "" 370 --help
+try "--version" /dev/null 0 "vnfm 0.1.0" "" 382 --version
+try "--help" /dev/null 0 "vnfm: a VNF lifecycle manager after ETSI GS NFV-SOL 003 V2.6.1" "" 382 --help
 try "init --help" /dev/null 0 \
-    "vnfm init --journal PATH --manager N    make the journal of manager N, from 0 to 4294967295, at PATH" "" 370 init --help
+    "vnfm init --journal PATH --manager N    make the journal of manager N, from 0 to 4294967295, at PATH" "" 382 init --help
 try "onboard --help" /dev/null 0 \
-    "vnfm onboard --journal PATH    onboard the descriptor on standard input, a JSON document" "" 370 onboard --help
+    "vnfm onboard --journal PATH    onboard the descriptor on standard input, a JSON document" "" 382 onboard --help
 try "once --help" "$request" 0 \
-    "vnfm once --journal PATH [OPTION..]    answer the requests on standard input, and record what they ask for" "" 370 once --help
+    "vnfm once --journal PATH [OPTION..]    answer the requests on standard input, and record what they ask for" "" 382 once --help
+try "check --help" /dev/null 0 \
+    "vnfm check --journal PATH    count what the journal at PATH has, and change nothing" "" 382 check --help
 
 # An answer that can't be delivered is recorded all the same.
 "$here/vnfm" once --journal "$journal" <"$request" >/dev/full 2>"$room/err"
 expect "once, output full, status" "$?" 0
 expect "once, output full, standard error" "$(cat "$room/err")" "done after 1 rounds
 vnfm: the answer couldn't be delivered; what it says is recorded"
-expect "once, output full, bytes of the journal" "$(bytes_of "$journal")" 408
+expect "once, output full, bytes of the journal" "$(bytes_of "$journal")" 424
 
 exit "$differs"

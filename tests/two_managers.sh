@@ -56,13 +56,13 @@ wait "$first"
 expect "first manager, status" "$?" 0
 expect "first manager, line" "$(cat "$room/first.err")" "done after 1 rounds"
 expect "first manager, answer" "$(head -n 1 "$room/first.out" | tr -d '\r')" "HTTP/1.1 201 Created"
-expect "journal, bytes" "$(bytes_of "$journal")" 332
+expect "journal, bytes" "$(bytes_of "$journal")" 340
 
 # Once the first has ended, the journal can be had again.
 "$here/vnfm" once --journal "$journal" <"$request" >"$room/third.out" 2>"$room/third.err"
 expect "third manager, status" "$?" 0
 expect "third manager, Location" "$(sed -n '2p' "$room/third.out" | tr -d '\r')" \
     "Location: /vnflcm/v1/vnf_instances/00000007-766d-8001-8000-000000000002"
-expect "journal, bytes" "$(bytes_of "$journal")" 370
+expect "journal, bytes" "$(bytes_of "$journal")" 382
 
 exit "$differs"

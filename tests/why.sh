@@ -34,7 +34,7 @@ at="--journal $room/none"
     wrong "no word" "a command is missing$more"
     wrong "a word that isn't UTF-8" "a word isn't UTF-8, so none of them counts$more" once --journal "$(printf 'j\377')"
     wrong "a command that is none" "\"migrate\" isn't understood$more" migrate $at
-    for command in serve check trial; do
+    for command in serve trial; do
         wrong "a command that isn't built" "\"$command\" isn't built yet; vnfm --help says which commands are" $command $at
     done
     wrong "an option twice" "\"--rounds\" stands twice$more" once $at --rounds 1 --rounds 2
@@ -50,7 +50,7 @@ at="--journal $room/none"
     wrong "no journal" "--journal PATH is missing$more" once
     wrong "no manager" "--manager N is missing$more" init $at
 }
-expect "the text of --help says what isn't built" "$("$program" --help | grep -c "serve, check and trial, which it names, aren't built yet")" 1
+expect "the text of --help says what isn't built" "$("$program" --help | grep -c "serve and trial, which it names, aren't built yet")" 1
 
 # ---- Journals
 

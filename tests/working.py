@@ -5,6 +5,7 @@ the calls leaves.
 A record is an event of tests/history.py, whose history says what is so of instances and of operations of all kinds. tests/played.py plays runs over this.
 """
 import collections
+import itertools
 
 import history
 import views
@@ -22,6 +23,11 @@ END = {PROCESSING: COMPLETED, ROLLING_BACK: ROLLED_BACK}
 ACTED, WAITS, UNREACHED = range(3)
 
 
+# Of a journal's file: where its first gate stands, the bytes that a record takes beside its own, those of the head of a batch, how many are read at once
+# by a loading and for a record that is read back, and how far the places of gates that are kept stand apart.
+FIRST_GATE, FRAME, HEAD, BLOCK, BACK, APART = 32, 9, 5, 65_536, 8_192, 4_096
+
+
 class DiskFailed(Exception):
     """A call on the disk failed."""
 
@@ -31,6 +37,32 @@ def spelled(event, moment=NOW):
     kind, *fields = event
     number, fields_of = history.SPELLED[kind]
     return u8(number) + u64(moment) + fields_of(*fields)
+
+
+SIZES = {}
+
+
+def size_of(event):
+    """How many bytes an event has."""
+    key = repr(event)
+    if key not in SIZES:
+        SIZES[key] = len(spelled(event))
+    return SIZES[key]
+
+
+def gates_of(records):
+    """The places of the gates of a file with these records, each in a batch of its own; the last is closed."""
+    return list(itertools.accumulate((size_of(it) + FRAME for it in records), initial=FIRST_GATE))
+
+
+def kept_of(gates):
+    """Before how many records the gates stand that are kept, of which the last is closed: each that stands far enough behind the one before."""
+    kept, least = [], FIRST_GATE
+    for before, place in enumerate(gates[:-1]):
+        if place >= least:
+            kept.append(before)
+            least = place + APART
+    return kept
 
 
 # ---- The next action
@@ -159,23 +191,40 @@ class Site:
         self.log.append(what)
 
     def load(self):
-        """The calls that open the journal: a sync, the length, the header, the head and the bytes of each record, and the closed gate."""
+        """The calls that open the journal: a sync, the length, the header, and all behind it in blocks. Nothing of it is held then."""
         self.call("sync")
-        for _ in range(3 + 2 * len(self.records)):
+        *_, end = gates_of(self.records)
+        for _ in range(2 + -(-(end + 1 - FIRST_GATE) // BLOCK)):
             self.call("read")
+        self.stand_at(0, FIRST_GATE)
+
+    def stand_at(self, before, place):
+        """What is read back next is read from this gate on, before which so many records stand."""
+        self.before, self.place, self.held_to = before, place, place
 
     def append(self, record):
-        """A record stands once its gate was written, and stays once that is synced."""
+        """A record stands once its gate was written, and stays once that is synced. What was read back isn't held any more."""
+        self.stand_at(0, FIRST_GATE)
         self.call("write")
         self.call("sync")
         self.call("gate", record)
         self.records.append(record)
         self.call("sync")
 
-    def read_back(self):
-        """A record is read back: its head and its bytes."""
-        self.call("read")
-        self.call("read")
+    def read_back(self, number):
+        """The record of this number, from 1, is read back: on from where was read last, or from the nearest place that is kept, if that is nearer."""
+        gates = gates_of(self.records)
+        before = max([it for it in kept_of(gates) if it < number], default=0)
+        if not before <= self.before < number:
+            self.stand_at(before, gates[before])
+        for behind in gates[self.before + 1 : number + 1]:
+            # (the head of its batch, and then the rest, where these aren't held)
+            for wanted in self.place + HEAD, behind:
+                if self.held_to < wanted:
+                    self.call("read")
+                    self.held_to = min(self.held_to + max(BACK, wanted - self.held_to), gates[-1])
+            self.place = behind
+        self.before = number
 
     def job_of(self, tag):
         return next((it for it in reversed(self.jobs) if it.tag == tag), None)
@@ -373,7 +422,7 @@ class Manager:
         place = subscription.first()
         if place is None:
             return 0, 0
-        self.site.read_back()
+        self.site.read_back(place)
         body = views.written(views.notice(number, place, self.site.records[place - 1], self.history))
         is_taken = self.courier.post(subscription.callback, body) == 204
         self.record("posted", number, place, history.DELIVERED if is_taken else history.NOT_TAKEN)

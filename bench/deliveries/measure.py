@@ -109,7 +109,7 @@ def main():
         waits = Rounds(path, written(path, NOTICES, receiver.port))
         measuring.run(waits.words(ROUNDS))
         must(receiver.taken == SUBSCRIPTIONS * ROUNDS, f"{receiver.taken} notices were taken")
-        must(waits.grown() == SUBSCRIPTIONS * ROUNDS * 31, f"{waits.grown()} bytes were recorded")
+        must(waits.grown() == SUBSCRIPTIONS * ROUNDS * 35, f"{waits.grown()} bytes were recorded")
         rows("each is posted one of 10,000, and takes it", waits, ROUNDS, SUBSCRIPTIONS)
         rows("each is posted one of 200, and takes it", Rounds(path, written(path, 2 * ROUNDS, receiver.port)), ROUNDS, SUBSCRIPTIONS)
         rows("no receiver is reached", Rounds(path, written(path, NOTICES, unreached())), ROUNDS, SUBSCRIPTIONS)

@@ -27,6 +27,11 @@ LINKS = ["net_data", "net_mgmt"]
 PORTS = [("CP_A_data", 0, 0), ("CP_A_mgmt", 0, 1), ("CP_B_mgmt", 1, 1)]
 
 
+def batch(event):
+    """An event in a batch of its own, behind its open gate."""
+    return u8(1) + u32(4 + len(event)) + u32(len(event)) + event
+
+
 def descriptor(workers):
     vdus = [("VDU_A", 2_147_483_648, 2, workers + 1, [0]), ("VDU_B", 512_000_000, 1, 0xFFFFFFFF, [1])]
     levels = [("large", workers), ("normal", 1), ("small", 0)]
@@ -75,7 +80,7 @@ def journal(starting, operations, workers):
     """The bytes of the journal behind its header."""
     records = b""
     for at, (kind, fields) in enumerate(events(starting, operations, workers)):
-        records += u8(1) + u32(9 + len(fields)) + u8(kind) + u64(FIRST_MOMENT + at) + fields
+        records += batch(u8(kind) + u64(FIRST_MOMENT + at) + fields)
     return records + none
 
 
@@ -119,5 +124,5 @@ def machines(count, terminated, made, opened=4):
         told += begun(2, u8(6) + u8(0) + none, removes, made, opened)
     else:
         told += begun(1, instantiate, creates, made, opened)
-    records = [u8(1) + u32(9 + len(fields)) + u8(kind) + u64(FIRST_MOMENT + at) + fields for at, (kind, fields) in enumerate(told)]
+    records = [batch(u8(kind) + u64(FIRST_MOMENT + at) + fields) for at, (kind, fields) in enumerate(told)]
     return b"".join(records) + none

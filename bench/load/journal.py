@@ -50,7 +50,7 @@ CREATE, REMOVE, START, STOP = range(4)
 DONE = u8(0) + name("server")
 BROKEN = u8(1) + u32(5)
 NOTICED = {CREATED, DELETED, ASKED, MOVED}
-HEADER = b"VNFM-LCM" + u8(1) + u32(MANAGER) + bytes(19)
+HEADER = b"VNFM-LCM" + u8(2) + u32(MANAGER) + bytes(19)
 
 
 class Ends(Exception):
@@ -130,7 +130,8 @@ class Journal:
         """Writes an event, and the posts of its notice to all who are told."""
         if self.events == self.wanted:
             raise Ends
-        self.out.write(u8(1) + u32(9 + len(fields)) + u8(kind) + u64(FIRST_MOMENT + self.events) + fields)
+        length = 9 + len(fields)
+        self.out.write(u8(1) + u32(4 + length) + u32(length) + u8(kind) + u64(FIRST_MOMENT + self.events) + fields)
         self.events += 1
         if self.told and kind in NOTICED:
             place = self.events

@@ -23,7 +23,7 @@ SHAPES = [
     ("healed", 1, 10_000, 20_000), ("healed", 2499, 5_400, 8_400),
 ]
 LENGTHS = [31_250, 62_500, 125_000, 250_000]
-FULL = [4_190_000, 8_380_000]
+FULL = [3_725_000, 7_450_000]
 vnfm = measuring.built("vnfm")
 
 
@@ -31,8 +31,12 @@ def opening(path):
     return [vnfm, "once", "--journal", path, "--rounds", "0"]
 
 
-def rows(room, shape, number, lengths, *named, times=measuring.TIMES):
-    """The rows of journals of this shape and these lengths."""
+def counting(path):
+    return [vnfm, "check", "--journal", path]
+
+
+def rows(room, shape, number, lengths, *named, times=measuring.TIMES, opening=opening):
+    """The rows of journals of this shape and these lengths, opened by this command."""
     for events in lengths:
         with open(room / str(events), "wb") as file:
             journal.write(file, shape, events, number)
@@ -49,6 +53,9 @@ def main():
     full = sys.argv[2:] == ["full"]
     with measuring.room() as room:
         rows(room, "cycle", 1, FULL if full else LENGTHS, times=3 if full else measuring.TIMES)
+        print("\nThe same journals, by `check`:")
+        measuring.head("Events, from", "to", "Bytes", "us an event", "Memory, bytes an event")
+        rows(room, "cycle", 1, FULL if full else LENGTHS, times=3 if full else measuring.TIMES, opening=counting)
     if full:
         return
     print("\nBy what is live:")

@@ -131,18 +131,18 @@ def written(on, instances, operation=None, is_completed=False):
     """The journal of so many instances, each instantiated by the occurrence of its own number; and where there is an
     operation, it was asked of each, by the occurrences behind those, or is COMPLETED."""
     return measuring.HEADER + b"".join(
-        u8(1) + u32(9 + len(fields)) + u8(kind) + u64(journal.FIRST_MOMENT + at) + fields
+        journal.batch(u8(kind) + u64(journal.FIRST_MOMENT + at) + fields)
         for at, (kind, fields) in enumerate(events(on, instances, operation, is_completed))
     ) + none
 
 
 def granted(records):
-    """Of these bytes of a journal, which begin with a record, how many changes each grant has."""
+    """Of these bytes of a journal, which begin with a batch of one record, as all are, how many changes each grant has."""
     at, found = 0, []
     while records[at] == 1:
         size = int.from_bytes(records[at + 1 : at + 5], "big")
-        if records[at + 5] == journal.GRANTED:
-            found.append(granted_changes(records[at + 14 : at + 5 + size]))
+        if records[at + 9] == journal.GRANTED:
+            found.append(granted_changes(records[at + 18 : at + 5 + size]))
         at += 5 + size
     return found
 

@@ -1,7 +1,7 @@
 //! What was wanted and what came, told where they differ first: the line of a text, or the record of a journal.
 
 use crate::events::event_text;
-use crate::records::record_at;
+use crate::records::{Between, FIRST, record_at};
 use crate::words::CaseFault;
 use event_codec::decode;
 use std::alloc::{AllocError, AllocFailed, Global};
@@ -11,9 +11,6 @@ const WINDOW: usize = 100;
 
 /// Bytes that are told before the first that differs.
 const BEFORE: usize = 40;
-
-/// Bytes of a journal before its first record.
-const HEADER: usize = 32;
 
 /// What was wanted, and what came in its place.
 pub struct Difference {
@@ -101,10 +98,10 @@ pub fn same_file(alloc: Global, wanted: &[u8], came: &[u8]) -> Result<(), ActFau
         return Ok(());
     }
     let place = first_difference(wanted, came);
-    let (number, at) = record_around(wanted, place);
+    let (number, here) = record_around(wanted, place);
     Err(differs(
-        record_text(alloc, wanted, number, at, place)?,
-        record_text(alloc, came, number, at, place)?,
+        record_text(alloc, wanted, number, here, place)?,
+        record_text(alloc, came, number, here, place)?,
     ))
 }
 
@@ -158,19 +155,19 @@ fn line_text(alloc: Global, text: &[u8], place: usize) -> Result<String, AllocEr
 
 /// The number, from 1, of the record of this journal that has this place, and where it begins; of what stands behind
 /// its records, where none has.
-fn record_around(file: &[u8], place: usize) -> (usize, usize) {
-    let mut at = HEADER;
+fn record_around(file: &[u8], place: usize) -> (usize, Between) {
+    let mut here = FIRST;
     let mut number: usize = 1;
     for _ in 0..file.len() {
-        match record_at(file, at) {
-            Some(bytes) if at.saturating_add(bytes) <= place => {
-                at = at.saturating_add(bytes);
+        match record_at(file, here) {
+            Some(found) if found.behind.place <= place => {
+                here = found.behind;
                 number = number.saturating_add(1);
             }
-            _ => return (number, at),
+            _ => return (number, here),
         }
     }
-    (number, at)
+    (number, here)
 }
 
 /// The record of this number that begins here, by its event; else the bytes around this place.
@@ -178,11 +175,11 @@ fn record_text(
     alloc: Global,
     file: &[u8],
     number: usize,
-    at: usize,
+    here: Between,
     place: usize,
 ) -> Result<String, CaseFault> {
-    if place >= HEADER {
-        if let Some(text) = event_at(alloc, file, at)? {
+    if place >= FIRST.place {
+        if let Some(text) = event_at(alloc, file, here)? {
             return Ok(format!(in alloc; "record {number}, at byte {place}: {text}")?);
         }
     }
@@ -192,11 +189,11 @@ fn record_text(
 }
 
 /// What the event of the record says that begins here; none where there is no record or no event.
-fn event_at(alloc: Global, file: &[u8], at: usize) -> Result<Option<String>, CaseFault> {
-    let Some(bytes) = record_at(file, at) else {
+fn event_at(alloc: Global, file: &[u8], here: Between) -> Result<Option<String>, CaseFault> {
+    let Some(found) = record_at(file, here) else {
         return Ok(None);
     };
-    let content = file.get(at.saturating_add(5)..at.saturating_add(bytes));
+    let content = file.get(found.begin..found.behind.place);
     match decode(alloc, content.unwrap_or(&[])) {
         Ok(event) => Ok(Some(event_text(alloc, &event)?)),
         Err(_) => Ok(None),

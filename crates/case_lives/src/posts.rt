@@ -1,7 +1,7 @@
 //! The posts of a life: each is made right before the record that it was made is begun, and tells of an event that the
 //! journal has by then.
 
-use crate::records::record_at;
+use crate::records::{FIRST, record_at};
 use site_traits::{MemSite, SiteCall};
 use std::alloc::{AllocError, Global};
 
@@ -47,7 +47,7 @@ fn told_at(file: &[u8], write: usize, at: u64) -> Option<u64> {
     }
     let record = file.get(usize::try_from(at).ok()?..)?;
     match record {
-        [_, _, _, _, kind, ..] if *kind == POSTED => number_at(record, 21),
+        [_, _, _, _, _, _, _, _, kind, ..] if *kind == POSTED => number_at(record, 25),
         _ => None,
     }
 }
@@ -96,11 +96,11 @@ pub fn tell_of_these(posts: &[Sent], count: usize, events: usize) -> bool {
 
 /// How many records a file has, up to its first closed gate.
 pub fn records_in(file: &[u8]) -> usize {
-    let mut end = 32;
+    let mut here = FIRST;
     let mut count: usize = 0;
     for _ in 0..file.len() {
-        match record_at(file, end) {
-            Some(bytes) => end = end.saturating_add(bytes),
+        match record_at(file, here) {
+            Some(found) => here = found.behind,
             None => return count,
         }
         count = count.saturating_add(1);
@@ -110,14 +110,14 @@ pub fn records_in(file: &[u8]) -> usize {
 
 /// The header of a file and its first so many records; all where it has fewer.
 pub fn first_records(file: &[u8], count: usize) -> &[u8] {
-    let mut end = 32;
+    let mut here = FIRST;
     for _ in 0..count.min(file.len()) {
-        match record_at(file, end) {
-            Some(bytes) => end = end.saturating_add(bytes),
-            None => return file.get(..end).unwrap_or(file),
+        match record_at(file, here) {
+            Some(found) => here = found.behind,
+            None => return file.get(..here.place).unwrap_or(file),
         }
     }
-    file.get(..end).unwrap_or(file)
+    file.get(..here.place).unwrap_or(file)
 }
 
 /// The place behind so many lines of a text; its end where it has fewer.

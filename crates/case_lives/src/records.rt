@@ -140,17 +140,20 @@ fn fields_of(alloc: Global, step: Step) -> Result<Vec<u8>, AllocError> {
     }
 }
 
-/// Puts the record of this step, with its open gate.
+/// Puts the record of this step, in a batch of its own.
 fn put(alloc: Global, file: &mut Vec<u8>, step: Step) -> Result<(), AllocError> {
     let fields = fields_of(alloc, step)?;
     put_record(file, kind_of(step), &fields)
 }
 
-/// Puts the record of the kind of this number with these fields, with its open gate.
+/// Puts the record of the kind of this number with these fields, in a batch of its own: behind its open gate stand the
+/// lengths of its content and of the record.
 fn put_record(file: &mut Vec<u8>, kind: u8, fields: &[u8]) -> Result<(), AllocError> {
     let length = u32::try_from(fields.len()).unwrap_or(0).saturating_add(17);
-    let [a, b, c, d] = length.to_be_bytes();
-    file.extend_from_slice(&[1, a, b, c, d, kind])?;
+    let [a, b, c, d] = length.saturating_add(4).to_be_bytes();
+    file.extend_from_slice(&[1, a, b, c, d])?;
+    file.extend_from_slice(&length.to_be_bytes())?;
+    file.push(kind)?;
     file.extend_from_slice(&ABOUT)?;
     file.extend_from_slice(fields)
 }
@@ -171,25 +174,69 @@ pub fn journal_with(alloc: Global, file: &[u8], steps: &[Step]) -> Result<Vec<u8
     Ok(whole)
 }
 
-/// The bytes of the record at this place, with its gate and its length, where it is open.
-pub fn record_at(file: &[u8], at: usize) -> Option<usize> {
-    let behind = file.get(at..)?;
-    match behind {
-        [1, a, b, c, d, ..] => {
-            let length = usize::try_from(u32::from_be_bytes([*a, *b, *c, *d])).ok()?;
-            Some(length.saturating_add(5))
-        }
+/// A place of a file between its records, and how many bytes of the batch at hand stand behind it.
+#[derive(Clone, Copy)]
+pub struct Between {
+    /// The place: that of a gate, or of the length of a record that is not the first of its batch.
+    pub place: usize,
+    /// The bytes of the batch that are left; 0 at a gate.
+    pub left: usize,
+}
+
+/// The place of the first gate.
+pub const FIRST: Between = Between { place: 32, left: 0 };
+
+/// A record of a file.
+#[derive(Clone, Copy)]
+pub struct Found {
+    /// Where its bytes begin, behind its length.
+    pub begin: usize,
+    /// What is behind it.
+    pub behind: Between,
+}
+
+/// The number of four bytes at this place of a file.
+fn length_at(file: &[u8], place: usize) -> Option<usize> {
+    match file.get(place..)? {
+        [a, b, c, d, ..] => usize::try_from(u32::from_be_bytes([*a, *b, *c, *d])).ok(),
         _ => None,
     }
 }
 
+/// The place behind the head of the batch at this gate, where it is open, and the bytes of its content.
+fn content_at(file: &[u8], gate: usize) -> Option<Between> {
+    match file.get(gate..)? {
+        [1, ..] => Some(Between {
+            place: gate.saturating_add(5),
+            left: length_at(file, gate.saturating_add(1))?,
+        }),
+        _ => None,
+    }
+}
+
+/// The record that stands here: the next one of the batch at hand, or the first one of the batch at an open gate.
+pub fn record_at(file: &[u8], here: Between) -> Option<Found> {
+    let at = if here.left > 0 {
+        here
+    } else {
+        content_at(file, here.place)?
+    };
+    let begin = at.place.saturating_add(4);
+    let bytes = length_at(file, at.place)?;
+    let behind = Between {
+        place: begin.saturating_add(bytes),
+        left: at.left.saturating_sub(4).saturating_sub(bytes),
+    };
+    Some(Found { begin, behind })
+}
+
 /// The file up to its first closed gate.
 pub fn front_of(file: &[u8]) -> &[u8] {
-    let mut end = 32;
+    let mut here = FIRST;
     for _ in 0..file.len() {
-        match record_at(file, end) {
-            Some(bytes) => end = end.saturating_add(bytes),
-            None => return file.get(..end).unwrap_or(file),
+        match record_at(file, here) {
+            Some(found) => here = found.behind,
+            None => return file.get(..here.place).unwrap_or(file),
         }
     }
     file
