@@ -1,5 +1,5 @@
 -- Calls in a row, by what they ask of the site.
-use Rattle.std.proofs.Common.{◌≡◌, ◌∙◌, sym, ap, refl, List, [], ◌∷◌, ◌++◌, append_assoc, length-append, Result, Ok, Err, arith}
+use Rattle.std.proofs.Common.{◌≡◌, ◌∙◌, sym, ap, refl, Bool, List, [], ◌∷◌, ◌++◌, append_assoc, length-append, Result, Ok, Err, arith}
 use Rattle.site_traits.specs.Counts.{SiteCounts, Ask, asked, all_asked, disk_failed, DiskCause, StopsIn, Asks}
 use Rattle.site_traits.specs.Counts.Ask.{write, cut, sync}
 use Rattle.std.proofs.Common.{IsErr}
@@ -9,7 +9,7 @@ use Rattle.journal_core.specs.declared.create.CreateFault.{CreateFault}
 use Rattle.journal_core.specs.declared.create.CreateFault.TheVariants as creating
 use Rattle.journal_core.specs.declared.journal.AppendFault.{AppendFault}
 use Rattle.journal_core.specs.declared.journal.AppendFault.TheVariants as appending
-use Rattle.journal_core.specs.Asking.{through, to_make, AppendAsks, CreateAsks}
+use Rattle.journal_core.specs.Asking.{through, to_make, AppendAsks, AsksToMake}
 
 -- what was asked for in two parts
 pub all_asked-append : (xs ys : List Ask) (c : SiteCounts) → all_asked (xs ++ ys) c ≡ all_asked ys (all_asked xs c)
@@ -148,7 +148,8 @@ append_fails (Err (appending.Full end more)) a b asks = asked_fails [] _ a b ask
 append_fails (Err appending.Disk) a b asks = stops_fails (through 2) _ a b asks refl
 
 -- the faults of the making of a file
-pub create_fails : {T : Type 0} (r : Result T CreateFault) (a b : SiteCounts) → CreateAsks r a b → OnlyDiskFails (r ≡ Err creating.Disk) a b
-create_fails (Ok done) a b asks = asked_fails (sync ∷ to_make asks.0) _ a b asks.1 (λ wrong. cc wrong)
-create_fails (Err creating.Taken) a b asks = asked_fails (sync ∷ []) _ a b asks (λ wrong. cc wrong)
-create_fails (Err creating.Disk) a b asks = stops_fails (sync ∷ to_make asks.0) _ a b asks.1 refl
+pub create_fails : {T : Type 0} (longer : Bool) (r : Result T CreateFault) (a b : SiteCounts) → AsksToMake longer r a b
+    → OnlyDiskFails (r ≡ Err creating.Disk) a b
+create_fails longer (Ok done) a b asks = asked_fails (sync ∷ to_make longer) _ a b asks (λ wrong. cc wrong)
+create_fails longer (Err creating.Taken) a b asks = asked_fails (sync ∷ []) _ a b asks (λ wrong. cc wrong)
+create_fails longer (Err creating.Disk) a b asks = stops_fails (sync ∷ to_make longer) _ a b asks refl

@@ -1,5 +1,5 @@
 -- What the calls of a journal ask of its site, and which faults they count (own rule).
-use Rattle.std.specs.Prelude.{◌≡◌, ℕ, zero, suc, Bool, true, false, List, [], ◌∷◌, Result, Ok, Err}
+use Rattle.std.specs.Prelude.{◌≡◌, ℕ, zero, suc, nat_lt, Bool, true, false, List, [], ◌∷◌, Result, Ok, Err}
 use Rattle.site_traits.specs.Counts.{SiteCounts, Ask, asked, all_asked, disk_failed, OnlyDiskFails, StopsIn}
 use Rattle.site_traits.specs.Counts.Ask.{write, cut, sync}
 use Rattle.journal_core.specs.declared.create.CreateFault.{CreateFault}
@@ -29,13 +29,18 @@ abbrev pub to_make : Bool → List Ask
 to_make true = cut ∷ sync ∷ through 3
 to_make false = through 3
 
--- What the making of a file asks of the site: a sync, a cut and a sync where the file is longer than a byte, and three
--- times a write and then a sync, or the front of these up to a call that failed; the first sync alone where the file is
--- taken.
-abbrev pub CreateAsks : {T : Type 0} → Result T CreateFault → SiteCounts → SiteCounts → Type 0
-CreateAsks (Ok done) a b = (longer : Bool) × (b ≡ all_asked (sync ∷ to_make longer) a)
-CreateAsks (Err creating.Taken) a b = b ≡ asked sync a
-CreateAsks (Err creating.Disk) a b = (longer : Bool) × StopsIn (sync ∷ to_make longer) a b
+-- What the making of a file asks of the site: a sync, a cut and a sync where it is longer than a byte, and three times a
+-- write and then a sync, or the front of these up to a call that failed; the first sync alone where the file is taken.
+abbrev pub AsksToMake : {T : Type 0} → Bool → Result T CreateFault → SiteCounts → SiteCounts → Type 0
+AsksToMake longer (Ok done) a b = b ≡ all_asked (sync ∷ to_make longer) a
+AsksToMake longer (Err creating.Taken) a b = b ≡ asked sync a
+AsksToMake longer (Err creating.Disk) a b = StopsIn (sync ∷ to_make longer) a b
+
+-- the making of a file asks for this, of which the length that the file had is known where the site tells
+pub record CreateAsks {T : Type 0} (tells : Type 0) (long : ℕ) (r : Result T CreateFault) (a b : SiteCounts) : Type 0 where
+  pub longer : Bool
+  pub is : tells → longer ≡ nat_lt 1 long
+  pub asks : AsksToMake longer r a b
 
 -- an append counts one disk fault where it answers one, and none else
 abbrev pub AppendsCount : Type 0
@@ -44,5 +49,5 @@ AppendsCount = (r : Result (Unit {0}) AppendFault) (a b : SiteCounts) → Append
 
 -- and so does the making of a file
 abbrev pub CreatesCount : Type 0
-CreatesCount = (r : Result (Unit {0}) CreateFault) (a b : SiteCounts) → CreateAsks r a b
+CreatesCount = (longer : Bool) (r : Result (Unit {0}) CreateFault) (a b : SiteCounts) → AsksToMake longer r a b
     → OnlyDiskFails (r ≡ Err creating.Disk) a b

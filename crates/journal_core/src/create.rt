@@ -1,13 +1,13 @@
 // The making of a journal file. Its first byte is written last, once all behind it is on the disk.
-ghost use Rattle.std.specs.Prelude.{◌≡◌, ◌≤◌, ◌<◌, ◌↔◌, [], ◌∷◌, ℕ, Bool, List, IsTrue, IfOk, OnOk, length, take, drop};
+ghost use Rattle.std.specs.Prelude.{◌≡◌, ◌≤◌, ◌<◌, ◌↔◌, [], ◌∷◌, ℕ, List, IsTrue, IfOk, length, take, drop, nat_lt};
 ghost use Rattle.site_traits.specs.Counts.{Ask, asked, Asks, DiskCause};
 ghost use Rattle.site_traits.specs.Counts.Ask.{cut, sync};
 ghost use Rattle.site_traits.specs.Site.{KeepsJobs, Reads};
-ghost use Rattle.journal_records.specs.File.{header, HasRecords};
+ghost use Rattle.journal_records.specs.File.{header};
 ghost use Rattle.journal_core.specs.Header.{made, IsUnfinished};
 ghost use Rattle.journal_core.specs.Load.{SyncsAndReads};
 ghost use Rattle.journal_core.specs.Asking.{CreateAsks, to_make, through};
-ghost use Rattle.journal_core.specs.Create.{Creates, Steps, LengthIs, StandsSo, IsEmpty, IsFilled, IsBegun};
+ghost use Rattle.journal_core.specs.Create.{Creates, MakesFile, Steps, LengthIs, StandsSo, IsEmpty, IsFilled, IsBegun, IsWhole};
 
 use crate::journal::Journal;
 use crate::through::write_through;
@@ -41,19 +41,38 @@ impl<S: Site> Journal<S> {
     pub fn create(site: &mut S, manager: u32) -> Result<(), CreateFault>
         ensures told { S.tells → Creates manager result (S.state site.old) (S.state site.new) }
         ensures jobs { S.tells → KeepsJobs (S.state site.old) (S.state site.new) }
-        ensures asks { CreateAsks result (S.counts site.old) (S.counts site.new) }
+        ensures asks { CreateAsks S.tells (length (S.state site.old).image) result (S.counts site.old)
+            (S.counts site.new) }
     {
-        let Some(len) = unfinished_length(site, manager)? else {
-            return Err(CreateFault::Taken);
-        };
-        make_anew(site, manager, len)?;
-        Ok(())
+        make_file(site, manager, &made_bytes(manager))
     }
 }
 
-// The bytes of a made file with no record.
+/// Makes a file of these bytes, which begin with the header of this manager, out of an unfinished one. Its first byte is
+/// written last, once all behind it is on the disk: at every moment the file is unfinished, or it has all of them.
+///
+/// Refusals, in this order: `Taken` exactly where the file isn't unfinished for this manager, after which it is as it
+/// was; `Disk`.
+/// Source: own format, docs/JOURNAL.md.
+pub fn make_file<S: Site>(site: &mut S, manager: u32, bytes: &[u8]) -> Result<(), CreateFault>
+    requires { take 32 bytes.now ≡ header manager }
+    ensures told { S.tells → MakesFile manager bytes.now result (S.state site.old) (S.state site.new) }
+    ensures jobs { S.tells → KeepsJobs (S.state site.old) (S.state site.new) }
+    ensures asks { CreateAsks S.tells (length (S.state site.old).image) result (S.counts site.old)
+        (S.counts site.new) }
+{
+    let Some(len) = unfinished_length(site, manager)? else {
+        return Err(CreateFault::Taken);
+    };
+    make_anew(site, manager, len, bytes)?;
+    Ok(())
+}
+
+/// The bytes of a made file of this manager with no record.
+///
+/// Source: own format, docs/JOURNAL.md.
 #[tactic(auto, unfolding(journal_records::specs::File::header))]
-fn made_bytes(manager: u32) -> [u8; 33]
+pub fn made_bytes(manager: u32) -> [u8; 33]
     ensures { result ≡ made manager }
 {
     let [a, b, c, d] = manager.to_be_bytes();
@@ -64,24 +83,25 @@ fn made_bytes(manager: u32) -> [u8; 33]
 }
 
 // Makes the file out of an unfinished one of so many bytes, of which it leaves one at most.
-fn make_anew<S: Site>(site: &mut S, manager: u32, len: u64) -> Result<(), DiskFailed>
+fn make_anew<S: Site>(site: &mut S, manager: u32, len: u64, bytes: &[u8]) -> Result<(), DiskFailed>
+    requires whole { take 32 bytes.now ≡ header manager }
     requires unfinished { S.tells → StandsSo (IsUnfinished manager) (S.state site.old) }
     requires long { S.tells → len ≡ length (S.state site.old).image }
-    ensures told { S.tells → Steps manager (HasRecords manager []) result (S.state site.old) (S.state site.new) }
-    ensures asks { (longer : Bool) × Asks (to_make longer) result (S.counts site.old) (S.counts site.new) }
+    ensures told { S.tells → Steps manager bytes.now (IsWhole bytes.now) result (S.state site.old) (S.state site.new) }
+    ensures asks { Asks (to_make (nat_lt 1 len)) result (S.counts site.old) (S.counts site.new) }
 {
     if len > 1 {
-        shorten(site, manager)?;
-        return make(site, manager);
+        shorten(site, manager, bytes)?;
+        return make(site, manager, bytes);
     }
-    make(site, manager)
+    make(site, manager, bytes)
 }
 
 // Cuts an unfinished file to one byte.
-fn shorten<S: Site>(site: &mut S, manager: u32) -> Result<(), DiskFailed>
+fn shorten<S: Site>(site: &mut S, manager: u32, bytes: &[u8]) -> Result<(), DiskFailed>
     requires unfinished { S.tells → StandsSo (IsUnfinished manager) (S.state site.old) }
     requires longer { S.tells → 1 < length (S.state site.old).image }
-    ensures told { S.tells → Steps manager IsEmpty result (S.state site.old) (S.state site.new) }
+    ensures told { S.tells → Steps manager bytes.now IsEmpty result (S.state site.old) (S.state site.new) }
     ensures asks { Asks (cut ∷ sync ∷ []) result (S.counts site.old) (S.counts site.new) }
 {
     site.cut(1)?;
@@ -89,50 +109,67 @@ fn shorten<S: Site>(site: &mut S, manager: u32) -> Result<(), DiskFailed>
 }
 
 // Makes a file of at most one byte.
-fn make<S: Site>(site: &mut S, manager: u32) -> Result<(), DiskFailed>
+fn make<S: Site>(site: &mut S, manager: u32, bytes: &[u8]) -> Result<(), DiskFailed>
+    requires whole { take 32 bytes.now ≡ header manager }
     requires empty { S.tells → StandsSo IsEmpty (S.state site.old) }
-    ensures told { S.tells → Steps manager (HasRecords manager []) result (S.state site.old) (S.state site.new) }
+    ensures told { S.tells → Steps manager bytes.now (IsWhole bytes.now) result (S.state site.old) (S.state site.new) }
     ensures asks { Asks (through 3) result (S.counts site.old) (S.counts site.new) }
 {
-    begin(site, manager)?;
-    fill_and_finish(site, manager)
+    begin(site, manager, bytes)?;
+    fill_and_finish(site, manager, bytes)
 }
 
-// What is left of the making of a file that begins with `v`.
-fn fill_and_finish<S: Site>(site: &mut S, manager: u32) -> Result<(), DiskFailed>
+// What is left of the making of a file that is one `v`.
+fn fill_and_finish<S: Site>(site: &mut S, manager: u32, bytes: &[u8]) -> Result<(), DiskFailed>
+    requires whole { take 32 bytes.now ≡ header manager }
     requires begun { S.tells → StandsSo IsBegun (S.state site.old) }
-    ensures told { S.tells → Steps manager (HasRecords manager []) result (S.state site.old) (S.state site.new) }
+    ensures told { S.tells → Steps manager bytes.now (IsWhole bytes.now) result (S.state site.old) (S.state site.new) }
     ensures asks { Asks (through 2) result (S.counts site.old) (S.counts site.new) }
 {
-    fill(site, manager)?;
-    finish(site, manager)
+    fill(site, manager, bytes)?;
+    finish(site, manager, bytes)
 }
 
 // Writes the first byte of an unfinished file.
-fn begin<S: Site>(site: &mut S, manager: u32) -> Result<(), DiskFailed>
+fn begin<S: Site>(site: &mut S, manager: u32, bytes: &[u8]) -> Result<(), DiskFailed>
     requires empty { S.tells → StandsSo IsEmpty (S.state site.old) }
-    ensures told { S.tells → Steps manager IsBegun result (S.state site.old) (S.state site.new) }
+    ensures told { S.tells → Steps manager bytes.now IsBegun result (S.state site.old) (S.state site.new) }
     ensures asks { Asks (through 1) result (S.counts site.old) (S.counts site.new) }
 {
     write_through(site, 0, b"v")
 }
 
-// Writes all of a made file but its first byte.
-fn fill<S: Site>(site: &mut S, manager: u32) -> Result<(), DiskFailed>
+// Writes all of a file but its first byte.
+fn fill<S: Site>(site: &mut S, manager: u32, bytes: &[u8]) -> Result<(), DiskFailed>
+    requires whole { take 32 bytes.now ≡ header manager }
     requires begun { S.tells → StandsSo IsBegun (S.state site.old) }
-    ensures told { S.tells → Steps manager (IsFilled manager) result (S.state site.old) (S.state site.new) }
+    ensures told { S.tells → Steps manager bytes.now (IsFilled bytes.now) result (S.state site.old)
+        (S.state site.new) }
     ensures asks { Asks (through 1) result (S.counts site.old) (S.counts site.new) }
 {
-    write_through(site, 1, &made_bytes(manager)[1..])
+    write_through(site, 1, &bytes[1..])
 }
 
-// Writes the first byte of a made file.
-fn finish<S: Site>(site: &mut S, manager: u32) -> Result<(), DiskFailed>
-    requires filled { S.tells → StandsSo (IsFilled manager) (S.state site.old) }
-    ensures told { S.tells → Steps manager (HasRecords manager []) result (S.state site.old) (S.state site.new) }
+// Writes the first byte of a file that has all the others.
+fn finish<S: Site>(site: &mut S, manager: u32, bytes: &[u8]) -> Result<(), DiskFailed>
+    requires whole { take 32 bytes.now ≡ header manager }
+    requires filled { S.tells → StandsSo (IsFilled bytes.now) (S.state site.old) }
+    ensures told { S.tells → Steps manager bytes.now (IsWhole bytes.now) result (S.state site.old) (S.state site.new) }
     ensures asks { Asks (through 1) result (S.counts site.old) (S.counts site.new) }
 {
     write_through(site, 0, b"V")
+}
+
+/// Whether the file is unfinished for this manager, so that it may be made. What was pending is on the disk first; the
+/// file is as it was.
+///
+/// Source: own format, docs/JOURNAL.md.
+pub fn may_be_made<S: Site>(site: &mut S, manager: u32) -> Result<bool, DiskFailed>
+    ensures unfinished { S.tells → IfOk result (λ may. IsTrue may ↔ IsUnfinished manager (S.state site.old).image) }
+    ensures told { S.tells → SyncsAndReads (S.state site.old) (S.state site.new) }
+    ensures cause { DiskCause (asked Ask.sync (S.counts site.old)) (S.counts site.new) result }
+{
+    Ok(unfinished_length(site, manager)?.is_some())
 }
 
 // Syncs, and gives the length of the file; None where it isn't unfinished for this manager.

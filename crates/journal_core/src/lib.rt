@@ -12,7 +12,7 @@ mod marks;
 mod through;
 
 pub use back::BackFault;
-pub use create::CreateFault;
+pub use create::{CreateFault, made_bytes, make_file, may_be_made};
 pub use exclusion::files_are_one_thing;
 pub use journal::{AppendFault, Journal};
 pub use journal_records::{MAX_FILE, MAX_RECORD};

@@ -17,4 +17,4 @@ returns-clause-asks g c =
     c.in_ok-fill.ensures.asks.done c.finish.ensures.asks
 
 pub returns-clause-told : goal.returns-clause-told
-returns-clause-told g c = λ tells. steps_then _ _ _ _ _ _ _ _ (c.in_ok-fill.ensures.told tells) (c.finish.ensures.told tells)
+returns-clause-told g c = λ tells. steps_then _ _ _ _ _ _ _ _ _ (c.in_ok-fill.ensures.told tells) (c.finish.ensures.told tells)

@@ -5,7 +5,7 @@ use Rattle.journal_core.proofs.AskLemmas.{asks_failed, cut_stops, cut_and_sync}
 use Rattle.journal_core.proofs.create.shorten.Goals as goal
 
 pub returns-in_err-cut-clause-told : goal.returns-in_err-cut-clause-told
-returns-in_err-cut-clause-told g c = λ tells. cut_failed c.args.manager c.from_residual.result (g.S.Site.state c.args.site.now)
+returns-in_err-cut-clause-told g c = λ tells. cut_failed c.args.manager c.args.bytes.now c.from_residual.result (g.S.Site.state c.args.site.now)
     (g.S.Site.state c.cut.new.self) (c.requires.unfinished tells) (c.in_err-cut.ensures.told tells).on_file c.from_residual.ensures.0
 
 pub returns-in_err-cut-clause-asks : goal.returns-in_err-cut-clause-asks
@@ -17,7 +17,7 @@ returns-in_err-cut-clause-asks g c =
 pub returns-clause-told : goal.returns-clause-told
 returns-clause-told g c = λ tells.
     let cuts = c.in_ok-cut.ensures.told tells in
-    shortens c.args.manager c.sync.result (g.S.Site.state c.args.site.now) (g.S.Site.state c.cut.new.self)
+    shortens c.args.manager c.args.bytes.now c.sync.result (g.S.Site.state c.args.site.now) (g.S.Site.state c.cut.new.self)
     (g.S.Site.state c.sync.new.self) (c.requires.unfinished tells) cuts.on_file cuts.cut (c.sync.ensures.told tells)
 
 pub returns-clause-asks : goal.returns-clause-asks
