@@ -1,0 +1,9 @@
+pub mod BackLemmas
+pub mod EveryLemmas
+pub mod Excluding
+pub mod FrontLemmas
+pub mod HeadLemmas
+pub mod HeaderLemmas
+pub mod LoadLemmas
+pub mod MarkLemmas
+pub mod Records

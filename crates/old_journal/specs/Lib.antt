@@ -1,0 +1,10 @@
+pub mod Back
+pub mod Exclusion
+pub mod File
+pub mod Head
+pub mod Header
+pub mod Journal
+pub mod Judged
+pub mod Load
+pub mod Marks
+pub mod Room
