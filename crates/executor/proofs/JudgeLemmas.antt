@@ -51,7 +51,7 @@ pub record GoesOn (m : ℕ) (bytes : List ℕ) (bad : Option ℕ) (H H' : List E
   pub next : IsNext m H bytes event
   pub is : H' ≡ event ∷ H
 
-goes_on : (m n : ℕ) (bytes : List ℕ) (bad : Option ℕ) (H : List Event) (bad' : Option ℕ) (H' : List Event)
+pub goes_on : (m n : ℕ) (bytes : List ℕ) (bad : Option ℕ) (H : List Event) (bad' : Option ℕ) (H' : List Event)
     → StepsFrom m n bytes bad H bad' H' → bad' ≡ None → GoesOn m bytes bad H H'
 goes_on m n bytes (Some k) H bad' H' step none = let is = step.0 in cc
 goes_on m n bytes None H None H' step none = record { none = refl; event = step.0; next = step.1; is = step.2 }
@@ -67,7 +67,7 @@ end_more up m bytes bad H H' k k' on end more =
     up (spellings H) bytes k k' (end on.none) more
     ∙ ap size (ap (λ b. spellings H ++ b ∷ []) on.next.spelled ∙ sym (spellings-cons on.event H) ∙ ap spellings (sym on.is))
 
-step_judged : AddsUp → (j j' : Judged) (l l' : Progress) (H H' : List Event) → IsJudged j l H → ReadsOn l l'
+pub step_judged : AddsUp → (j j' : Judged) (l l' : Progress) (H H' : List Event) → IsJudged j l H → ReadsOn l l'
     → StepsFrom l'.manager l'.count l'.record_bytes j.bad H j'.bad H'
     → AreTablesOf l'.manager j'.tables H' → IsJudged j' l' H'
 step_judged up j j' l l' H H' judged reads step tables =
@@ -81,7 +81,7 @@ step_judged up j j' l l' H H' judged reads step tables =
     }
 
 -- the records with one more, as they were judged
-are_judged : (m n : ℕ) (bytes : List ℕ) (bad : Option ℕ) (H : List Event) (bad' : Option ℕ) (H' : List Event) (rs : List (List ℕ))
+pub are_judged : (m n : ℕ) (bytes : List ℕ) (bad : Option ℕ) (H : List Event) (bad' : Option ℕ) (H' : List Event) (rs : List (List ℕ))
     → StepsFrom m n bytes bad H bad' H'
     → AreJudged m H bad rs → IsLegal m H → AllByRecursion IsEvent H → (bad ≡ None → n ≡ length H + 1)
     → AreJudged m H' bad' (rs ++ bytes ∷ [])
@@ -157,21 +157,22 @@ few_events t some m H tables =
     omega (arith, one, other, some.small.events)
 
 -- before the first record
-pub none_judged : (tells : Type 0) (t : Tables) (l : Progress) (s : SiteState) → IsBegun l → (tells → Loads [] l s)
-    → AreTablesOf l.manager t []
-    → IsUnderWay tells (record { tables = t; bad = None }) l s
-none_judged tells t l s begun loads tables = record {
-  history = [];
-  judged = record {
-    tables = tables;
-    legal = search rules;
-    events = search rules;
-    count = λ none. search rules;
-    end =
-        λ none. search rules;
-  };
-  so_far = λ told. record { rs = []; loads = loads told; judged = refl };
-}
+pub none_judged : (tells : Type 0) (j : Judged) (l : Progress) (s : SiteState) → IsBegun l → (tells → Loads [] l s) → j.bad ≡ None
+    → AreTablesOf l.manager j.tables [] → IsUnderWay tells j l s
+none_judged tells j l s begun loads good tables =
+    let P : Option ℕ → Type 0 = λ b. AreJudged l.manager [] b [] in
+    record {
+      history = [];
+      judged = record {
+        tables = tables;
+        legal = search rules;
+        events = search rules;
+        count = λ none. search rules;
+        end =
+            λ none. search rules;
+      };
+      so_far = λ told. record { rs = []; loads = loads told; judged = subst P (sym good) refl };
+    }
 
 -- behind the last one
 pub all_judged : (tells : Type 0) (j : Judged) (l k : Progress) (a b : SiteState) → IsUnderWay tells j l a → k.manager ≡ l.manager

@@ -59,7 +59,7 @@ module _ (one_spelling : NoSpellingBeginsAnother) (once : IsWholeOnce) (its : Re
       ap (λ (e : Event). e ∷ H) first ∙ ap (λ (F : List Event). g ∷ F) rest
 
   -- where each event was allowed after those before it, no record is one that wasn't
-  no_bad : (m : ℕ) (H before : List Event) (bytes : List ℕ) (rest : List (List ℕ)) → AllByRecursion IsEvent H
+  pub no_bad : (m : ℕ) (H before : List Event) (bytes : List ℕ) (rest : List (List ℕ)) → AllByRecursion IsEvent H
       → AllByRecursion IsEvent before → IsLegal m H
       → spellings H ≡ spellings before ++ bytes ∷ rest → ((e : Event) → IsEvent e → bytes ≡ spelling e → IsAllowed m before e.kind → ⊥) → ⊥
   no_bad m [] before bytes rest is also legal same none = never_empty (spellings before) bytes rest same

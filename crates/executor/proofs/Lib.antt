@@ -1,12 +1,12 @@
 mod AskLemmas
 pub mod ChainLemmas
 pub mod CommitLemmas
-mod FaultLemmas
-mod JudgeLemmas
+pub mod FaultLemmas
+pub mod JudgeLemmas
 pub mod LawLemmas
 pub mod ManagerLemmas
 pub mod RoomLemmas
-mod SerialLemmas
+pub mod SerialLemmas
 mod SpellingLemmas
 pub mod WorkLemmas
 mod ReadingLemmas

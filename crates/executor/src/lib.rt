@@ -14,3 +14,4 @@ pub use laws::{
     works_with_jobs_add_up,
 };
 pub use manager::{Manager, OpenFault, ReadFault, WorkFault};
+pub use open::Judged;

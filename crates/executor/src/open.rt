@@ -5,7 +5,7 @@ ghost use Rattle.journal_core.specs.Load.{IsBegun, Loads};
 ghost use Rattle.journal_core.specs.Asking.{FailsWhere};
 ghost use Rattle.journal_records.specs.declared.limits.TheConstants.{MAX_FILE};
 ghost use Rattle.executor.specs.Loading.{IsThrough, Judges, JudgesNext, JudgesAll};
-ghost use Rattle.lcm_tables.specs.Tables.{HasSmallHistory};
+ghost use Rattle.lcm_tables.specs.Tables.{AreTablesOf, HasSmallHistory};
 
 use crate::manager::OpenFault;
 use event_codec::{DecodeFault, decode, no_spelling_begins_another};
@@ -41,10 +41,7 @@ pub fn judge_all<S: Site>(
 {
     records_add_up();
     serials_are_counted();
-    let mut judged = Judged {
-        tables: Tables::new(alloc, loading.manager()),
-        bad: None,
-    };
+    let mut judged = Judged::new(alloc, loading.manager());
     while let Found::Record = loading.next(site)? {
         judged.judge_next(alloc, loading.count(), loading.record_bytes())?;
     }
@@ -52,8 +49,19 @@ pub fn judge_all<S: Site>(
 }
 
 impl Judged {
-    /// Judges the next record, unless one before it was bad.
-    fn judge_next(&mut self, alloc: Global, n: u64, bytes: &[u8]) -> Result<(), AllocError>
+    /// No record was judged yet, of a journal of this manager.
+    pub fn new(alloc: Global, manager: u32) -> Judged
+        ensures bad { result.bad ≡ None }
+        ensures tables { AreTablesOf manager result.tables [] }
+    {
+        Judged {
+            tables: Tables::new(alloc, manager),
+            bad: None,
+        }
+    }
+
+    /// Judges the next record, unless one before it was bad. After want of memory nothing is known of the tables.
+    pub fn judge_next(&mut self, alloc: Global, n: u64, bytes: &[u8]) -> Result<(), AllocError>
         requires small { self.old.bad ≡ None → HasSmallHistory self.old.tables }
         ensures { OnOk result (JudgesNext n bytes.now self.old self.new) }
     {

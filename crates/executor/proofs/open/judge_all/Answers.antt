@@ -7,7 +7,7 @@ use Rattle.executor.proofs.open.judge_all.Goals as goal
 
 pub loop-judged-init : goal.loop-judged-init
 loop-judged-init g c = record {
-  judged = none_judged _ _ _ _ c.requires.begun c.requires.loads (rw (← c.manager.ensures) c.new.ensures);
+  judged = none_judged _ _ _ _ c.requires.begun c.requires.loads c.new-judged.ensures.bad (rw (← c.manager.ensures) c.new-judged.ensures.tables);
   manager = search rules;
   within = search rules;
   counts = search rules;
