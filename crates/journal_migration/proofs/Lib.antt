@@ -1,0 +1,4 @@
+pub mod OnceLemmas
+pub mod PackLemmas
+pub mod ReadLemmas
+pub mod WriteLemmas

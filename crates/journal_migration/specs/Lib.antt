@@ -1,0 +1,5 @@
+pub mod Laws
+pub mod Migrating
+pub mod Packing
+pub mod Reading
+pub mod Writing
