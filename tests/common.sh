@@ -14,6 +14,10 @@ no_json() { # LINE COLUMN
     echo "the descriptor is not taken: it is no JSON from line $1, column $2 on; $json"
 }
 
+# What stands there of a file that is no journal.
+no_journal="it is not a journal that init has finished; one of format 1, whose header differs first at byte 8, is carried over \
+by vnfm migrate --journal PATH --to NEWPATH"
+
 # Prints what was seen, and notes where it isn't what is wanted.
 expect() { # WHAT SEEN WANTED
     printf '%s: %s\n' "$1" "$2"

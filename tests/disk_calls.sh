@@ -1,8 +1,9 @@
 #!/bin/sh
 # The system calls around the journal's file: who may read one that is made; that `init` syncs its folder each time before it
 # answers, after a stop and a failed sync too; that the file is locked, then what the kernel holds of it is dropped, and only then
-# it is read; how often each command syncs the file and its folder, and writes; that a command which can't have the lock or drop the
-# pages makes no other call on it; and that no call on it goes to a standard stream. Needs strace.
+# it is read; how often each command syncs the file and its folder, and writes, and `migrate` both of its files; that a command
+# which can't have the lock or drop the pages makes no other call on it; and that no call on it goes to a standard stream. Needs
+# strace and python3.
 . "$(dirname "$0")/common.sh"
 
 program=$here/.build/vnfm
@@ -115,6 +116,23 @@ expect "once, no file, mode and bytes" "$(stat -c '%a %s' "$journal")" "600 0"
 chmod 640 "$journal"
 expect "once, an empty file, counts" "$(counted once)" "1 syncs, 0 of the folder, 1 in all, 0 writes, 0 cuts"
 expect "once, an empty file, mode and bytes" "$(stat -c '%a %s' "$journal")" "640 0"
+
+# A migration syncs the old file once and writes nothing to it; it makes the new one as `init` does, and syncs that one's folder.
+input=/dev/null
+rm -f "$journal"
+python3 -B "$here/tests/in_format_1.py" "$start" "$journal" || exit 1
+on_new() {
+    echo "$(grep -c "^fdatasync([0-9]*<$room/new>)" "$room/calls") syncs, $(grep -c "^pwrite64([0-9]*<$room/new>" "$room/calls") writes"
+}
+expect "migrate, counts" "$(counted migrate --to "$room/new")" "1 syncs, 1 of the folder, 6 in all, 0 writes, 0 cuts"
+expect "migrate, counts of the new file" "$(on_new)" "4 syncs, 3 writes"
+expect "migrate, mode of the new file" "$(stat -c %a "$room/new")" 600
+expect "migrate again, counts" "$(counted migrate --to "$room/new")" "1 syncs, 1 of the folder, 3 in all, 0 writes, 0 cuts"
+expect "migrate again, counts of the new file" "$(on_new)" "1 syncs, 0 writes"
+printf 'v and more' >"$room/new"
+expect "migrate, an unfinished new file, counts" "$(counted migrate --to "$room/new")" \
+    "1 syncs, 1 of the folder, 7 in all, 0 writes, 1 cuts"
+expect "migrate, an unfinished new file, counts of it" "$(on_new)" "5 syncs, 3 writes"
 
 # A run for which one of these calls fails stops there: it makes no other on the file, and leaves it to the byte.
 stopped() { # CALL ERROR

@@ -38,20 +38,20 @@ int posix_memalign(void **to, size_t align, size_t size) {
 END
 cc -shared -fPIC -O1 -o "$room/fail.so" "$room/fail.c" || exit 1
 
-# What a command does in which this allocation fails: its status, its line, the status line of its answer, and the length of
-# the journal, which begins as a copy of another.
+# What a command does in which this allocation fails: its status, its line, the status line of its answer, the length of the
+# journal, which begins as a copy of another, and that of the file to which it is migrated, where there is one.
 run_failing() { # NUMBER JOURNAL INPUT COMMAND [OPTION VALUE]
     number=$1
     cp "$2" "$room/journal"
-    rm -f "$room/failed"
+    rm -f "$room/failed" "$room/new"
     input=$3
     shift 3
     command=$1
     shift
     FAIL_AT=$number FAIL_TOLD=$room/failed LD_PRELOAD=$room/fail.so "$here/.build/vnfm" "$command" --journal "$room/journal" "$@" \
         <"$input" >"$room/out" 2>"$room/err"
-    echo "status $?, $(cat "$room/err" "$room/out" | tr -d '\r' | grep -E '^(HTTP|done|no memory|journal made|onboarded)' | sort | tr '\n' ',')" \
-        "$(bytes_of "$room/journal") bytes"
+    echo "status $?, $(cat "$room/err" "$room/out" | tr -d '\r' | grep -E '^(HTTP|done|no memory|journal made|onboarded|migrated)' | sort | tr '\n' ',')" \
+        "$(bytes_of "$room/journal") bytes$([ -e "$room/new" ] && echo ", $(bytes_of "$room/new") in the new file")"
 }
 
 # Fails each allocation of a command in turn, until it has no more: each time the run is as if none had failed, or is one of
@@ -84,6 +84,11 @@ fail_each onboard "status 0, onboarded vnfd-1: 2 vdus, 1 aspects, 2 levels, 298 
     "$room/made" "$here/examples/vnfd.json" onboard
 fail_each once "status 0, HTTP/1.1 201 Created,done after 1 rounds, 340 bytes" "status 6, no memory, 298 bytes
 status 0, HTTP/1.1 503 Service Unavailable,done after 1 rounds, 298 bytes" "$start" "$request" once
+
+# All of the new file is made in memory before it is written.
+python3 -B "$here/tests/in_format_1.py" "$start" "$room/old" || exit 1
+fail_each migrate "status 0, migrated 1 records, 294 bytes, 298 in the new file" "status 6, no memory, 294 bytes
+status 6, no memory, 294 bytes, 0 in the new file" "$room/old" /dev/null migrate --to "$room/new"
 
 # Turns of two acts, each of which records 27 bytes: tries that reach no orchestrator, and behind the fifth the moves to
 # ROLLED_BACK. A turn is made behind each request, so the first instance is one try ahead. The input is a connection without

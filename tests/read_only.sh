@@ -70,7 +70,7 @@ expect "a path where nothing may be made, made" "$(ls "$files/closed")" ""
 
 lost "a path behind a file" "$files/read_only/journal" "there is no such folder"
 
-try "a path that isn't there" "$files/new" 5 "no journal" "it is not a journal that init has finished"
+try "a path that isn't there" "$files/new" 5 "no journal" "$no_journal"
 expect "a path that isn't there, bytes left" "$(bytes_of "$files/new")" 0
 
 exit "$differs"

@@ -122,6 +122,39 @@ def header(manager):
 
 
 HEADER = let("HEADER", latin(header(7)))
+
+
+# ---- Journals of format 1, as it stood before batches: docs/JOURNAL.md, "Format 1"
+
+def old_header(manager):
+    """The first 32 bytes of a journal of format 1 of this manager."""
+    return b"VNFM-LCM" + u8(1) + u32(manager) + bytes(19)
+
+
+def in_old_record(event):
+    """A record of format 1 behind its open gate: its length, and the bytes of the event."""
+    return latin(u8(1) + u32(len(event)) + event)
+
+
+OLD_HEADER = let("OLD_HEADER", latin(old_header(7)))
+# The most bytes of a batch's content.
+MOST = 131_072
+
+
+def packed(*events):
+    """Batches of these events: each goes into the one at hand where its content then has the most bytes or fewer, and else into a new one."""
+    batches, size = [], MOST
+    for event in events:
+        if size + 4 + len(event) > MOST:
+            batches.append([])
+            size = 0
+        batches[-1].append(event)
+        size += 4 + len(event)
+    return "".join(in_batch(*it) for it in batches)
+
+
+# ---- Journals that are opened
+
 UNOPENED = "unopened: site fault"
 # The disk calls that open a journal of at most 65,536 bytes behind its header: a sync, the length, the header, and all behind it at once.
 CALLS_TO_OPEN = 4

@@ -58,6 +58,13 @@ CREATED = [None] + [let("CREATED_%d" % n, created_answer(n)) for n in range(1, 5
 LAST_CREATED = let("LAST_CREATED", created_answer(1, CLOSE))
 CREATION = [None] + [let("CREATION_%d" % n, record(2, u64(n), name("vnfd-1"), u8(1), name("edge-1"), u8(0))) for n in range(1, 5)]
 JOURNALS = [JOURNAL] + [let("JOURNAL_%d" % n, [HEADER, ONBOARDED] + CREATION[1 : n + 1] + ["\0"]) for n in range(1, 5)]
+# The onboarding of the descriptor without a machine, and the creation of an instance of it; a journal of format 1 that has them, and what it is migrated to.
+EVENTS = [
+    cases.event(1, SIMPLE_VNFD, bytes(10), u16(1), name("default"), u16(0), moment=NOW),
+    cases.event(2, u64(1), name("vnfd-1"), u8(1), name("edge-1"), u8(0), moment=NOW),
+]
+OLD_JOURNAL = let("OLD_JOURNAL", [OLD_HEADER, *map(in_old_record, EVENTS), "\0"])
+NEW_JOURNAL = let("NEW_JOURNAL", [HEADER, packed(*EVENTS), "\0"])
 
 
 def told(count):

@@ -9,8 +9,8 @@ WORDS_END = "; vnfm --help says more\n"
 ONCE = ["once", "--journal", "j"]
 
 
-def explained(words, status, line, lost="", undelivered=False):
-    return ["line", words, status, lost, undelivered, line]
+def explained(words, status, line, lost="", undelivered=False, spare=""):
+    return ["line", words, status, lost, spare, undelivered, line]
 
 
 run(
@@ -23,6 +23,32 @@ run(
     explained(ONCE, 9, "vnfm: \"j\": it has no room for what was to be recorded\n"),
     explained(ONCE, 6, "vnfm: there was no memory\n"),
     explained(["once", "--journal", "a\nb", "c"], 2, "vnfm: \"c\" isn't understood" + WORDS_END),
+)
+NO_JOURNAL = (
+    "it is not a journal that init has finished; one of format 1, whose header differs first at byte 8, is carried over by vnfm migrate "
+    "--journal PATH --to NEWPATH"
+)
+GIVE_ANOTHER = "; give another path, or move it away\n"
+MIGRATE = ["migrate", "--journal", "j", "--to", "k"]
+run(
+    "a file that is no journal, one that is taken and one without room are told of by what was to be done with them",
+    *[explained(words, 5, 'vnfm: "j": %s\n' % NO_JOURNAL) for words in (ONCE, ["onboard", "--journal", "j"], ["check", "--journal", "j"])],
+    explained(MIGRATE, 5, 'vnfm: "j": no journal of format 1 stands there\n'),
+    explained(["init", "--manager", "7", "--journal", "j"], 11, 'vnfm: "j": it is a journal already, or no file of this program\'s' + GIVE_ANOTHER),
+    explained(MIGRATE, 11, 'vnfm: "k": it is not an unfinished journal of the same manager' + GIVE_ANOTHER),
+    explained(MIGRATE, 9, 'vnfm: "k": a journal of the present format would be longer than one may be\n'),
+    explained(MIGRATE, 8, "vnfm: \"j\": it has a record that is broken or isn't allowed there\n"),
+    explained(MIGRATE, 6, "vnfm: there was no memory\n"),
+    explained(MIGRATE, 0, ""),
+)
+run(
+    "of two files that are lost the journal is named, and else the one that it goes to",
+    explained(MIGRATE, 3, 'vnfm: "j": another manager holds its lock\n', "locked"),
+    explained(MIGRATE, 3, 'vnfm: "k": another manager holds its lock\n', spare="locked"),
+    explained(MIGRATE, 3, 'vnfm: "j": there is no such folder\n', "no folder", spare="locked"),
+    explained(["migrate", "--to", "k", "--journal", "j"], 3, 'vnfm: "k": its file system is read-only\n', spare="read only"),
+    explained(["migrate", "--to", "", "--journal", "j"], 3, 'vnfm: "": the path is empty\n', spare="no folder"),
+    explained(MIGRATE, 3, "vnfm: /dev/null couldn't be opened, which holds the places of closed standard streams\n"),
 )
 run(
     "a reason names the journal wherever it stands",
@@ -55,14 +81,15 @@ run(
     "texts are asked for by their words",
     ["page", ["once", "--help"], "vnfm once --journal PATH [OPTION..]    answer the requests on standard input"],
     ["page", ["check", "--help"], "vnfm check --journal PATH    count what the journal at PATH has, and change nothing\n"],
+    ["page", ["migrate", "--help"], "vnfm migrate --journal PATH --to PATH    make a journal of the present format of one of format 1\n"],
     ["page", ["--version"], "vnfm 0.1.0\n"],
     ["page", ["--version", "more"], ""],
 )
 
 
-def set_by(words, command, journal, manager=0, role="Orchestrator", rounds=0, orchestrator="", vim=""):
+def set_by(words, command, journal, manager=0, role="Orchestrator", rounds=0, orchestrator="", vim="", to=""):
     """What these words set: nothing sets addresses to listen on, or a trial."""
-    texts = '"%s" %d %s %d "" "" "%s" "%s"' % (journal, manager, role, rounds, orchestrator, vim)
+    texts = '"%s" %d %s %d "" "" "%s" "%s" "%s"' % (journal, manager, role, rounds, orchestrator, vim, to)
     return ["set", words, "%s %s 0 0" % (command, texts)]
 
 
@@ -138,13 +165,32 @@ run(
     *not_understood("Check", "Check", *AT_J),
 )
 run(
+    "migrate sets both paths, and takes nothing else",
+    set_by(MIGRATE, "Migrate", "j", to="k"),
+    set_by(["migrate", "--to", "k", "--journal", "j"], "Migrate", "j", to="k"),
+    set_by(["migrate", "--journal", "j", "--to", "j"], "Migrate", "j", to="j"),
+    set_by(["migrate", "--journal", "", "--to", ""], "Migrate", ""),
+    *no_command("--journal PATH is missing", "migrate"),
+    *no_command("--journal PATH is missing", "migrate", "--to", "k"),
+    *no_command("--to PATH is missing", "migrate", *AT_J),
+    *no_command('"--to" has no value', "migrate", *AT_J, "--to"),
+    *not_understood("k", *MIGRATE[:3], "k"),
+    *not_understood("--manager", *MIGRATE, "--manager", "7"),
+    *not_understood("--role", *MIGRATE, "--role", "em"),
+    *not_understood("--to=k", "migrate", *AT_J, "--to=k"),
+    *stands_twice("--to", *MIGRATE, "--to", "k"),
+    *no_value("-k", "--to", TEXT, "migrate", *AT_J, "--to", "-k"),
+    *not_understood("Migrate", "Migrate", *AT_J, "--to", "k"),
+    # It is an option of no other command.
+    *[it for words in (ONCE, ["check", *AT_J], ["onboard", *AT_J], ["init", *AT_J]) for it in not_understood("--to", *words, "--to", "k")],
+)
+run(
     "words that are no command are told apart",
     *no_command("a command is missing"),
     *not_understood("--journal", *AT_J, "once"),
     *not_understood("Once", "Once", *AT_J),
     *not_built("serve", *AT_J),
     *not_built("trial", "--start", "1", "--count", "1"),
-    *not_understood("migrate", "migrate", *AT_J),
     *not_understood("--", "--", *ONCE),
     *no_command("--journal PATH is missing", "once"),
     *no_command("--journal PATH is missing", "once", "--rounds", "2"),

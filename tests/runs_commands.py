@@ -163,12 +163,6 @@ run(
 
 # ---- How a run ends
 
-# The onboarding of the descriptor without a machine, and the creation of an instance of it.
-EVENTS = [
-    cases.event(1, SIMPLE_VNFD, bytes(10), u16(1), name("default"), u16(0), moment=NOW),
-    cases.event(2, u64(1), name("vnfd-1"), u8(1), name("edge-1"), u8(0), moment=NOW),
-]
-
 LIVE = record(2, u64(0), name("vnfd-1"), u8(0), u8(0), moment=0)
 run(
     "a thousand instances are live, and no more",
@@ -209,6 +203,7 @@ run(
 NO_COMMANDS = [
     *["", "once", "once --journal", "once --journal -j", "once --journal j x", "--journal j once", "serve --journal j", "--help"],
     *["onboard --journal -j", "onboard --journal j --manager 7", "init --journal j", "once --journal j --journal j"],
+    *["migrate --journal j", "migrate --to k", "migrate --journal j --to -k", "once --journal j --to k"],
     *["once --journal j --rounds", "once --journal j --role none", "init --journal -j --manager 7", "init --journal j --role 7"],
     *["init --journal j --manager " + number for number in ("+7", "-1", "7x", "4294967296", "000000000000000000007")],
 ]
@@ -216,7 +211,7 @@ for words in [*(it.split() for it in NO_COMMANDS), ["init", "--journal", "j", "-
     run(
         "these words are no command and touch nothing: " + " ".join(words),
         *[["site", MADE], ["door", CREATE], go(*words), ["status", 2], ["told", ""], ["moment", 0]],
-        ["printed", "usage: vnfm init|onboard|once|serve|check|trial\n"],
+        ["printed", "usage: vnfm init|onboard|once|serve|check|trial|migrate\n"],
     )
 for words, doors, count, more, clock in [
     *[("--rounds 0", 1, 0, 0, 0), ("--rounds 1", 2, 1, 42, 2), ("--rounds 3", 3, 3, 126, 6), ("--rounds 3", 1, 3, 42, 4)],
@@ -364,5 +359,5 @@ run(
 for words in [["check"], ["check", "--journal", "j", "--rounds", "1"], ["check", "--journal", "j", "--role", "em"], ["check", "--journal", "-j"]]:
     run(
         "these words are no check: " + " ".join(words),
-        *[["site", MADE], go(*words), ["status", 2], ["printed", "usage: vnfm init|onboard|once|serve|check|trial\n"], ["moment", 0]],
+        *[["site", MADE], go(*words), ["status", 2], ["printed", "usage: vnfm init|onboard|once|serve|check|trial|migrate\n"], ["moment", 0]],
     )

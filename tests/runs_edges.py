@@ -1,11 +1,12 @@
 """The runs that start the program over a file and streams in memory, of whose calls some go wrong."""
 import cases
 from cases import latin, name, u8, u32, u64
-from run_parts import NOW, batch_front, begin, run
+from run_parts import NOW, batch_front, begin, header, packed, run
+from run_texts import EVENTS
 
 begin(__name__)
 
-USAGE = "usage: vnfm init|onboard|once|serve|check|trial\n"
+USAGE = "usage: vnfm init|onboard|once|serve|check|trial|migrate\n"
 INIT = ["init", "--journal", "j", "--manager", "7"]
 ONBOARD = ["onboard", "--journal", "j"]
 ONCE = ["once", "--journal", "j"]
@@ -16,6 +17,10 @@ DONE = "done after 1 rounds\n"
 NO_MEMORY = "no memory\nvnfm: there was no memory\n"
 TAKEN = "vnfm: \"j\": it is a journal already, or no file of this program's; give another path, or move it away\n"
 NO_LINE = "vnfm: the last line couldn't be written\n"
+NO_JOURNAL = (
+    'vnfm: "j": it is not a journal that init has finished; one of format 1, whose header differs first at byte 8, is carried over by vnfm migrate '
+    "--journal PATH --to NEWPATH\n"
+)
 UNDELIVERED = "vnfm: the answer couldn't be delivered; what it says is recorded\n"
 NO_REQUEST = "vnfm: standard input had no request\n"
 MADE, JOURNAL, JOURNAL_1, DESCRIPTOR = "$MADE", "$JOURNAL", "$JOURNAL_1", "$DESCRIPTOR"
@@ -23,11 +28,13 @@ CREATE, CREATED, FAULT = "$CREATE", "$CREATED_1", "$FAULT"
 CREATION = cases.event(2, u64(1), name("vnfd-1"), u8(1), name("edge-1"), u8(0), moment=NOW)
 # The journal behind an append whose first sync failed: the record stands behind a gate that is closed.
 UNSAFE = ["$HEADER", "$ONBOARDED", latin(u8(0) + batch_front(len(CREATION))[1:] + CREATION + u8(0))]
+# The file of a migration that has all but its first byte.
+UNFINISHED = ["v", latin(header(7)[1:]), packed(*EVENTS), "\0"]
 WHOLE = 1_000_000
 
 
 def starts(words, status, printed, errors, made=0, word="start", **plan):
-    return [word, words, status, printed, errors, made, *([plan] if plan else [])]
+    return [word, words, status, printed, errors, made, *([{name.replace("_", " "): it for name, it in plan.items()}] if plan else [])]
 
 
 def wrong(call, kind="Other", first=1, last=None, piece=WHOLE):
@@ -59,7 +66,7 @@ run(
 )
 run(
     "once is told on standard error",
-    starts(ONCE, 5, "", "no journal\nvnfm: \"j\": it is not a journal that init has finished\n", 1, left=""),
+    starts(ONCE, 5, "", "no journal\n" + NO_JOURNAL, 1, left=""),
 )
 run("no room for a mouth is told as out of memory", starts(ONCE, 6, "", NO_MEMORY, word="start without a mouth"))
 run(
@@ -96,7 +103,7 @@ run(
 run(
     "check is told on standard output, and leaves the file",
     starts(CHECK, 0, "records 1, instances 0, ongoing 0, subscriptions 0\n", "", file=JOURNAL, input=CREATE, left=JOURNAL),
-    starts(CHECK, 5, "no journal\n", "vnfm: \"j\": it is not a journal that init has finished\n", 1, left=""),
+    starts(CHECK, 5, "no journal\n", NO_JOURNAL, 1, left=""),
     starts(CHECK, 0, "records 0, instances 0, ongoing 0, subscriptions 0\n", "", file=MADE, left=MADE),
     site_fault(CHECK, LOCKED, file=JOURNAL, wrong=wrong("lock", "WouldBlock")),
     *[site_fault(CHECK, DISK, file=JOURNAL, left=JOURNAL, wrong=wrong(call)) for call in ("length", "read", "sync")],
@@ -165,6 +172,69 @@ run(
         starts(ONBOARD, 4, "door fault\n", "vnfm: standard input couldn't be read\n", file=MADE, input=DESCRIPTOR, left=MADE, wrong=it)
         for it in (wrong("receive"), wrong("receive", "Other", 2, 2, 20))
     ],
+)
+
+# ---- Two files, of which the second is that at the path `new`
+
+MIGRATE = ["migrate", "--journal", "j", "--to", "new"]
+OLD, NEW, IS_MIGRATED = "$OLD_JOURNAL", "$NEW_JOURNAL", "migrated 2 records\n"
+NOT_OLD = 'vnfm: "j": no journal of format 1 stands there\n'
+
+
+def loses(path, why, made=0, **plan):
+    """A call on the file at this path fails, which is told on standard error."""
+    return starts(MIGRATE, 3, "site fault\n", 'vnfm: "%s": %s\n' % (path, why), made, **plan)
+
+
+run(
+    "migrate makes its file and says so, and what it made is a journal",
+    starts(MIGRATE, 0, IS_MIGRATED, "", 1, file=OLD, left=OLD, new_left=NEW),
+    starts(MIGRATE, 0, IS_MIGRATED, "", file=OLD, new="v and more", input=CREATE, left=OLD, new_left=NEW),
+    starts(["check", "--journal", "new"], 0, "records 2, instances 1, ongoing 0, subscriptions 0\n", "", new=NEW, left=NEW),
+    starts(
+        *[MIGRATE, 11, "taken\n", 'vnfm: "new": it is not an unfinished journal of the same manager; give another path, or move it away\n'],
+        **dict(file=OLD, new=NEW, left=OLD, new_left=NEW),
+    ),
+    starts(MIGRATE, 7, "migrated ", NO_LINE, 1, file=OLD, left=OLD, new_left=NEW, wrong=wrong("print", piece=9)),
+)
+run(
+    "migrate makes the file at the new path before it reads the old one",
+    starts(MIGRATE, 5, "not a journal: byte 8\n", NOT_OLD, 1, file=NEW, left=NEW, new_left=""),
+    starts(MIGRATE, 5, "no journal\n", NOT_OLD, 2, left="", new_left=""),
+    starts(
+        *[MIGRATE, 8, "bad record 1\n", 'vnfm: "j": it has a record that is broken or isn\'t allowed there\n', 1],
+        **dict(file="$OLD_HEADER", left="$OLD_HEADER", new_left=""),
+    ),
+    # It is made by no other command, and by no words that are no command.
+    starts(CHECK, 5, "not a journal: byte 8\n", NO_JOURNAL, file=OLD, left=OLD),
+    starts(MIGRATE[:3], 2, USAGE, "vnfm: --to PATH is missing; vnfm --help says more\n"),
+)
+for kind, why in CAUSES:
+    run(
+        "of two files that can't be had the old one is told: %s" % kind,
+        # The first of these calls is on the old file, and the second on the new one.
+        *[loses("j", why, file=OLD, new="", new_left="", wrong=wrong(call, kind)) for call in ("open", "kind", "lock", "pages")],
+        *[loses("new", why, file=OLD, new="", left=OLD, wrong=wrong(call, kind, 2)) for call in ("open", "kind", "lock", "pages")],
+        *[loses("j", why, file=OLD, new="", wrong=wrong(call, kind, 1, 2)) for call in ("open", "kind", "lock", "pages")],
+        # Of an old file that is there the folder isn't synced, and of the new one it is each time.
+        *[loses("new", why, file=OLD, new="", left=OLD, wrong=wrong("folder", kind)), loses("new", why, 1, file=OLD, left=OLD, wrong=wrong("folder", kind))],
+        loses("new", why, file=OLD, left=OLD, wrong=wrong("create", kind)),
+        # An old file that is no journal is told before the new one that is lost.
+        starts(MIGRATE, 5, "not a journal: byte 8\n", NOT_OLD, file=MADE, new="", left=MADE, wrong=wrong("lock", kind, 2)),
+    )
+    run(
+        "why a disk call of a migration failed is told of the file that it was on: %s" % kind,
+        # (the first length and the first read of the new file, which no run asked for, would fail as what is left is looked at)
+        *[loses("j", why, file=OLD, new="v", left=OLD, wrong=wrong(call, kind)) for call in ("length", "read")],
+        loses("j", why, file=OLD, new="v", left=OLD, new_left="v", wrong=wrong("sync", kind)),
+        # The old file is synced once, and never written.
+        *[loses("new", why, file=OLD, new="", left=OLD, new_left=left, wrong=wrong("write", kind, n)) for n, left in ((1, ""), (2, "v"), (3, UNFINISHED))],
+        *[loses("new", why, file=OLD, new="", left=OLD, new_left=left, wrong=wrong("sync", kind, n)) for n, left in ((2, "v"), (3, UNFINISHED), (4, NEW))],
+    )
+run(
+    "out of memory as the new file is opened is told as that",
+    *[starts(MIGRATE, 6, "", NO_MEMORY, file=OLD, new="", left=OLD, wrong=wrong(call, "OutOfMemory", 2)) for call in ("open", "kind", "lock", "pages")],
+    starts(MIGRATE, 6, "", NO_MEMORY, 1, file=OLD, left=OLD, wrong=wrong("folder", "OutOfMemory")),
 )
 
 # ---- Bytes that get no answer, or a refusal that isn't to a request

@@ -6,7 +6,7 @@ import itertools
 
 import cases
 from cases import latin, u32
-from run_parts import CALLS_TO_OPEN, HEADER, NOW, UNOPENED, begin, in_batch, in_record, let, opens, run, says, told_back, with_records
+from run_parts import CALLS_TO_OPEN, HEADER, MOST, NOW, UNOPENED, begin, in_batch, in_record, let, opens, run, says, told_back, with_records
 
 D, OTHER = "d", "e"
 D_ONBOARDED, D_CREATED = cases.onboarded(cases.descriptor(D, levels=[cases.level("l")])), cases.created(1, D)
@@ -239,7 +239,7 @@ def filled(size):
 
 # ---- Batches of the most bytes
 
-MOST, BLOCK, BACK = 131_072, 65_536, 8_192
+BLOCK, BACK = 65_536, 8_192
 # Instances are created with a text and deleted: 62 with one of the most bytes, and one with a text by which the content has all its bytes.
 LINE, PAIRS = 2_048, 63
 PAIR = 4 + len(cases.created(1, D, None, "")) + LINE + 4 + len(D_GONE)

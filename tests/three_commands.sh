@@ -1,6 +1,7 @@
 #!/bin/sh
 # The commands of the README on a real file: a journal is made, a descriptor onboarded, an instance created, and what there is
-# counted. Each is then tried again, with words too many, and for its help. Standard output and standard error are compared apart.
+# counted; and a journal of format 1 is migrated. Each is then tried again, with words too many, and for its help. Standard output
+# and standard error are compared apart. Needs python3.
 . "$(dirname "$0")/common.sh"
 
 journal=$room/journal
@@ -28,7 +29,7 @@ no_value() { # VALUE OPTION WANTED
     printf 'vnfm: "%s" is no value of %s, which takes %s; vnfm --help says more' "$1" "$2" "$3"
 }
 
-usage="usage: vnfm init|onboard|once|serve|check|trial"
+usage="usage: vnfm init|onboard|once|serve|check|trial|migrate"
 try "init" /dev/null 0 "journal made for manager 7" "" 33 init --journal "$journal" --manager 7
 expect "init, lines of standard output" "$(wc -l <"$room/out" | tr -d ' ')" 1
 expect "init, the journal" "$(od -An -tx1 -v "$journal" | tr -d ' \n')" \
@@ -57,12 +58,34 @@ try "check" "$request" 0 "records 3, instances 2, ongoing 0, subscriptions 0" ""
 expect "check, lines of standard output" "$(wc -l <"$room/out" | tr -d ' ')" 1
 try "check again" "$request" 0 "records 3, instances 2, ongoing 0, subscriptions 0" "" 382 check --journal "$journal"
 
+# A journal of format 1 with the same records, which takes a gate and a length less for each, is migrated once, and stays.
+old=$room/old
+new=$room/new
+python3 -B "$here/tests/in_format_1.py" "$journal" "$old" && cp "$old" "$room/kept" || exit 1
+try "check, of format 1" /dev/null 5 "not a journal: byte 8" "vnfm: \"$old\": $no_journal" 382 check --journal "$old"
+try "migrate" "$request" 0 "migrated 3 records" "" 382 migrate --journal "$old" --to "$new"
+expect "migrate, lines of standard output" "$(wc -l <"$room/out" | tr -d ' ')" 1
+expect "migrate, bytes of both" "$(bytes_of "$old") $(bytes_of "$new")" "370 372"
+try "check, of what was migrated" /dev/null 0 "records 3, instances 2, ongoing 0, subscriptions 0" "" 382 check --journal "$new"
+cp "$new" "$room/migrated"
+try "migrate again" /dev/null 11 "taken" \
+    "vnfm: \"$new\": it is not an unfinished journal of the same manager; give another path, or move it away" \
+    382 migrate --to "$new" --journal "$old"
+expect "migrate again, what differs" "$(cmp "$new" "$room/migrated" 2>&1) $(cmp "$old" "$room/kept" 2>&1)" " "
+try "once, over what was migrated" "$request" 0 "HTTP/1.1 201 Created" "done after 1 rounds" 382 once --journal "$new"
+expect "once, over what was migrated, bytes" "$(bytes_of "$new")" 414
+
 # Words too many, too few, or not understood: status 2, and the journal stays.
 try "check with a word too many" "$request" 2 "$usage" "$(unclear --rounds)" 382 check --journal "$journal" --rounds 1
 try "once with a word too many" "$request" 2 "$usage" "$(unclear more)" 382 once --journal "$journal" more
 try "onboard with words too many" "$descriptor" 2 "$usage" "$(unclear --manager)" 382 \
     onboard --journal "$journal" --manager 7
 try "init with a word too many" /dev/null 2 "$usage" "$(unclear 8)" 382 init --journal "$journal" --manager 7 8
+try "migrate with a word too many" /dev/null 2 "$usage" "$(unclear --manager)" 382 \
+    migrate --journal "$old" --to "$room/none" --manager 7
+try "migrate without a path to migrate to" /dev/null 2 "$usage" "vnfm: --to PATH is missing; vnfm --help says more" 382 \
+    migrate --journal "$old"
+expect "migrate with words too many or too few, made" "$(ls "$room/none" 2>/dev/null)" ""
 try "init without a manager" /dev/null 2 "$usage" "vnfm: --manager N is missing; vnfm --help says more" 382 \
     init --journal "$journal"
 try "a manager past the last" /dev/null 2 "$usage" \
@@ -92,6 +115,8 @@ try "once --help" "$request" 0 \
     "vnfm once --journal PATH [OPTION..]    answer the requests on standard input, and record what they ask for" "" 382 once --help
 try "check --help" /dev/null 0 \
     "vnfm check --journal PATH    count what the journal at PATH has, and change nothing" "" 382 check --help
+try "migrate --help" /dev/null 0 \
+    "vnfm migrate --journal PATH --to PATH    make a journal of the present format of one of format 1" "" 382 migrate --help
 
 # An answer that can't be delivered is recorded all the same.
 "$here/vnfm" once --journal "$journal" <"$request" >/dev/full 2>"$room/err"

@@ -1,13 +1,13 @@
 #!/bin/sh
-# What the program says of each mistake, made by hand: words that are no command, a journal that can't be had or written,
-# a descriptor that isn't JSON. Each has a line of its own on standard error, behind the line of its status. As root it
+# What the program says of each mistake, made by hand: words that are no command, a journal that can't be had or written, or
+# migrated, a descriptor that isn't JSON. Each has a line of its own on standard error, behind the line of its status. As root it
 # also fills file systems of its own (tmpfs), mounts one read-only and hides /dev/null; else that is skipped, which it
 # says. Needs python3, and its yaml for the advice on YAML.
 . "$(dirname "$0")/common.sh"
 
 program=$here/.build/vnfm
 more="; vnfm --help says more"
-usage="usage: vnfm init|onboard|once|serve|check|trial"
+usage="usage: vnfm init|onboard|once|serve|check|trial|migrate"
 number="a number from 0 to 4294967295, in at most 20 digits"
 
 # Runs the program, and looks at its status, its line and what stands on standard error behind it.
@@ -33,7 +33,7 @@ at="--journal $room/none"
 {
     wrong "no word" "a command is missing$more"
     wrong "a word that isn't UTF-8" "a word isn't UTF-8, so none of them counts$more" once --journal "$(printf 'j\377')"
-    wrong "a command that is none" "\"migrate\" isn't understood$more" migrate $at
+    wrong "a command that is none" "\"archive\" isn't understood$more" archive $at
     for command in serve trial; do
         wrong "a command that isn't built" "\"$command\" isn't built yet; vnfm --help says which commands are" $command $at
     done
@@ -49,6 +49,7 @@ at="--journal $room/none"
         once --journal -j
     wrong "no journal" "--journal PATH is missing$more" once
     wrong "no manager" "--manager N is missing$more" init $at
+    wrong "no path to migrate to" "--to PATH is missing$more" migrate $at
 }
 expect "the text of --help says what isn't built" "$("$program" --help | grep -c "serve and trial, which it names, aren't built yet")" 1
 
@@ -88,6 +89,30 @@ rm -f "$room/limited"
 seen=$( (trap '' XFSZ && ulimit -f 0 && "$program" init --journal "$room/limited" --manager 7 && echo done) 2>&1 | cat)
 expect "a limit on the size of files, without its signal" "$seen" "site fault
 vnfm: \"$room/limited\": it would be larger than a file may be"
+
+# A journal of format 1, the path that it goes to, and what else may stand at either.
+old=$room/old
+python3 -B "$here/tests/in_format_1.py" "$start" "$old" || exit 1
+move() { # WHAT STATUS LINE WHY OLD NEW
+    try "migrate, $1" /dev/null "$2" "$3" "$4" migrate --journal "$5" --to "$6"
+}
+
+lacks="no journal of format 1 stands there"
+try "check, of format 1" /dev/null 5 "not a journal: byte 8" "\"$old\": $no_journal" check --journal "$old"
+move "an empty new path" 3 "site fault" "\"\": the path is empty" "$old" ""
+move "a new path in a folder that isn't there" 3 "site fault" "\"$room/none/new\": there is no such folder" "$old" "$room/none/new"
+move "a folder" 3 "site fault" "\"$room\": it is not a regular file" "$old" "$room"
+move "a link to nothing" 3 "site fault" "\"$room/to_nothing\": it is a symbolic link to nothing, or was made just now by another" \
+    "$old" "$room/to_nothing"
+move "one file for both" 3 "site fault" "\"$old\": another manager holds its lock" "$old" "$old"
+move "an old path in a folder that isn't there" 3 "site fault" "\"$room/none/old\": there is no such folder" "$room/none/old" "$room/unused"
+move "an old path where nothing is" 5 "no journal" "\"$room/absent\": $lacks" "$room/absent" "$room/unused"
+move "a journal of the present format" 5 "not a journal: byte 8" "\"$start\": $lacks" "$start" "$room/unused"
+move "a new file that is a journal" 11 "taken" \
+    "\"$start\": it is not an unfinished journal of the same manager; give another path, or move it away" "$old" "$start"
+head -c -1 <"$old" >"$room/cut" || exit 1
+move "an old file without its closed gate" 8 "bad record 2" "\"$room/cut\": it has a record that is broken or isn't allowed there" \
+    "$room/cut" "$room/unused"
 
 # File systems of this script's own.
 mkdir "$room/full" "$room/inodes" "$room/sealed" || exit 1

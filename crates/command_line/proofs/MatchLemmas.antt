@@ -22,17 +22,17 @@ use Rattle.command_line.specs.Found.{HasValues}
 use Rattle.command_line.specs.Words.{Pair, Word, are_of, command_named, fits, given, is_option, needed_of, options_of, pairs_of, parted}
 use Rattle.command_line.specs.Words.{stand_once, stands, takes}
 use Rattle.command_line.specs.declared.options.Command.{Command}
-use Rattle.command_line.specs.declared.options.Command.TheVariants.{Check, Init, Onboard, Once}
+use Rattle.command_line.specs.declared.options.Command.TheVariants.{Check, Init, Migrate, Onboard, Once}
 
 -- what `clap` is told of an option, and of the words
 abbrev pub option_rule : Word → Word → Rule
 option_rule name default = record (new_rule name) { long = Some name; defaults = default ∷ [] }
 
 abbrev pub reader : App
-reader = with_rule (with_rule (with_rule (with_rule (with_rule (with_rule (new_app (codes "vnfm")) (option_rule (codes "journal") []))
-    (option_rule (codes "manager") (codes "0")))
+reader = with_rule (with_rule (with_rule (with_rule (with_rule (with_rule (with_rule (new_app (codes "vnfm"))
+    (option_rule (codes "journal") [])) (option_rule (codes "manager") (codes "0")))
     (option_rule (codes "role") (codes "orchestrator"))) (option_rule (codes "rounds") (codes "1")))
-    (option_rule (codes "orchestrator") [])) (option_rule (codes "vim") [])
+    (option_rule (codes "orchestrator") [])) (option_rule (codes "vim") [])) (option_rule (codes "to") [])
 
 -- what it makes of that
 abbrev rules : List Rule
@@ -45,18 +45,19 @@ reader_is_simple = refl
 -- an option of a command
 abbrev IsKnown : Word → Type 0
 IsKnown o = (o ≡ codes "--journal") ⊎ ((o ≡ codes "--manager") ⊎ ((o ≡ codes "--role")
-    ⊎ ((o ≡ codes "--rounds") ⊎ ((o ≡ codes "--orchestrator") ⊎ (o ≡ codes "--vim")))))
+    ⊎ ((o ≡ codes "--rounds") ⊎ ((o ≡ codes "--orchestrator") ⊎ ((o ≡ codes "--vim") ⊎ (o ≡ codes "--to"))))))
 
 -- what holds of each option holds of a known one
 known_by : (P : Word → Type 0) → P (codes "--journal") → P (codes "--manager") → P (codes "--role") → P (codes "--rounds")
-    → P (codes "--orchestrator") → P (codes "--vim") → (o : Word) → IsKnown o → P o
-known_by P journal manager role rounds orchestrator vim o known = elim known [
+    → P (codes "--orchestrator") → P (codes "--vim") → P (codes "--to") → (o : Word) → IsKnown o → P o
+known_by P journal manager role rounds orchestrator vim to o known = elim known [
   | inl e ↦ subst P (sym e) journal
   | inr (inl e) ↦ subst P (sym e) manager
   | inr (inr (inl e)) ↦ subst P (sym e) role
   | inr (inr (inr (inl e))) ↦ subst P (sym e) rounds
   | inr (inr (inr (inr (inl e)))) ↦ subst P (sym e) orchestrator
-  | inr (inr (inr (inr (inr e)))) ↦ subst P (sym e) vim
+  | inr (inr (inr (inr (inr (inl e))))) ↦ subst P (sym e) vim
+  | inr (inr (inr (inr (inr (inr e))))) ↦ subst P (sym e) to
 ]
 
 -- a held state in which the option waits for its value, and one in which it has it
@@ -72,7 +73,7 @@ waiting_for o h = record (walk_from (met o h)) { waiting = option (drop 2 o) }
 -- a word that is an option's name
 name_walked : (h : Held) (o : Word) → IsKnown o → walked rules [] (walk_from h) o ≡ waiting_for o h
 unfolding clap_on_literals
-name_walked h = known_by (λ o. walked rules [] (walk_from h) o ≡ waiting_for o h) refl refl refl refl refl refl
+name_walked h = known_by (λ o. walked rules [] (walk_from h) o ≡ waiting_for o h) refl refl refl refl refl refl refl
 
 -- a word that is no option's name looks like none
 no_option : (v : Word) → is_option v ≡ false → (bytes_eq v (codes "--") ≡ false) × (long_of v ≡ None) × (short_of v ≡ None)
@@ -87,7 +88,7 @@ value_walked h v plain =
     let it = no_option v plain in
     known_by (λ o. walked rules [] (waiting_for o h) v ≡ walk_from (had (o, v) h)) (rw (it.0, it.1, it.2) refl) (rw (it.0, it.1, it.2) refl)
     (rw (it.0, it.1, it.2) refl)
-    (rw (it.0, it.1, it.2) refl) (rw (it.0, it.1, it.2) refl) (rw (it.0, it.1, it.2) refl)
+    (rw (it.0, it.1, it.2) refl) (rw (it.0, it.1, it.2) refl) (rw (it.0, it.1, it.2) refl) (rw (it.0, it.1, it.2) refl)
 
 -- the words of these pairs
 abbrev spelled : List Pair → List Word
@@ -148,7 +149,7 @@ settled_row rows k v o known = known_by (λ o. has_row (drop 2 o) rows ≡ false
     → (settled rules (record { rows = rows; pending = Some (drop 2 o, v ∷ []); skip = k })).rows ≡ rows ++ row (o, v) ∷ [])
     (with_row rows v (codes "journal")) (with_row rows v (codes "manager")) (with_row rows v (codes "role"))
     (with_row rows v (codes "rounds"))
-    (with_row rows v (codes "orchestrator")) (with_row rows v (codes "vim")) o known
+    (with_row rows v (codes "orchestrator")) (with_row rows v (codes "vim")) (with_row rows v (codes "to")) o known
 
 -- no pair has a row yet
 abbrev AreNew : List Row → List Pair → Type 0
@@ -157,7 +158,7 @@ AreNew rows (p ∷ ps) = (has_row (drop 2 p.0) rows ≡ false) × AreNew rows ps
 
 -- a known option is its name behind `--`
 dashes : (o : Word) → IsKnown o → o ≡ 45 ∷ 45 ∷ drop 2 o
-dashes = known_by (λ o. o ≡ 45 ∷ 45 ∷ drop 2 o) refl refl refl refl refl refl
+dashes = known_by (λ o. o ≡ 45 ∷ 45 ∷ drop 2 o) refl refl refl refl refl refl refl
 
 same_name : (o q : Word) → IsKnown o → IsKnown q → bytes_eq (drop 2 o) (drop 2 q) ≡ bytes_eq o q
 same_name o q known other = sym (ap₂ bytes_eq (dashes o known) (dashes q other))
@@ -350,10 +351,11 @@ options_known Once = (
     inr (inr (inl refl)),
     (
       inr (inr (inr (inl refl))),
-      (inr (inr (inr (inr (inl refl)))), (inr (inr (inr (inr (inr refl)))), tt)),
+      (inr (inr (inr (inr (inl refl)))), (inr (inr (inr (inr (inr (inl refl))))), tt)),
     ),
   ),
 )
+options_known Migrate = (inl refl, (inr (inr (inr (inr (inr (inr refl))))), tt))
 
 not_true : (b : Bool) → not b ≡ true → b ≡ false
 not_true true e = absurd (false≢true e)
@@ -425,5 +427,6 @@ has_values f (name ∷ rest) c ps found are =
           (either (IsGiven (codes "--rounds") (codes "1")) refl (λ p. refl));
       orchestrator = value (codes "--orchestrator") [] (inr (inr (inr (inr (inl refl)))))
           (either (IsGiven (codes "--orchestrator") []) refl (λ p. refl));
-      vim = value (codes "--vim") [] (inr (inr (inr (inr (inr refl))))) (either (IsGiven (codes "--vim") []) refl (λ p. refl));
+      vim = value (codes "--vim") [] (inr (inr (inr (inr (inr (inl refl)))))) (either (IsGiven (codes "--vim") []) refl (λ p. refl));
+      to = value (codes "--to") [] (inr (inr (inr (inr (inr (inr refl)))))) (either (IsGiven (codes "--to") []) refl (λ p. refl));
     }

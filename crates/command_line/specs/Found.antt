@@ -12,3 +12,4 @@ pub record HasValues (found : Found) (pairs : List Pair) : Type 0 where
   pub rounds : first_value found (codes "rounds") ≡ Some (given (codes "--rounds") (codes "1") pairs)
   pub orchestrator : first_value found (codes "orchestrator") ≡ Some (given (codes "--orchestrator") [] pairs)
   pub vim : first_value found (codes "vim") ≡ Some (given (codes "--vim") [] pairs)
+  pub to : first_value found (codes "to") ≡ Some (given (codes "--to") [] pairs)

@@ -10,7 +10,7 @@ use Rattle.std.specs.Char.{is_ascii_digit}
 use Rattle.lcm_events.specs.declared.states.Role.{Role}
 use Rattle.lcm_events.specs.declared.states.Role.TheVariants.{Element, Orchestrator}
 use Rattle.command_line.specs.declared.options.Command.{Command}
-use Rattle.command_line.specs.declared.options.Command.TheVariants.{Check, Init, Onboard, Once}
+use Rattle.command_line.specs.declared.options.Command.TheVariants.{Check, Init, Migrate, Onboard, Once}
 use Rattle.command_line.specs.declared.options.Settings.{Settings}
 use Rattle.command_line.specs.declared.options.SettingsFault.{SettingsFault}
 use Rattle.command_line.specs.declared.options.SettingsFault.TheVariants.{Usage, Memory}
@@ -48,7 +48,8 @@ command_named name =
     if bytes_eq name (codes "init") then Some Init
     else (if bytes_eq name (codes "onboard") then Some Onboard
     else (if bytes_eq name (codes "once") then Some Once
-    else (if bytes_eq name (codes "check") then Some Check else None)))
+    else (if bytes_eq name (codes "check") then Some Check
+    else (if bytes_eq name (codes "migrate") then Some Migrate else None))))
 
 -- the options of a command
 abbrev pub options_of : Command → List Word
@@ -56,6 +57,7 @@ options_of Init = codes "--journal" ∷ codes "--manager" ∷ []
 options_of Onboard = codes "--journal" ∷ []
 options_of Once = codes "--journal" ∷ codes "--role" ∷ codes "--rounds" ∷ codes "--orchestrator" ∷ codes "--vim" ∷ []
 options_of Check = codes "--journal" ∷ []
+options_of Migrate = codes "--journal" ∷ codes "--to" ∷ []
 
 -- those that have to stand
 abbrev pub needed_of : Command → List Word
@@ -63,6 +65,7 @@ needed_of Init = codes "--journal" ∷ codes "--manager" ∷ []
 needed_of Onboard = codes "--journal" ∷ []
 needed_of Once = codes "--journal" ∷ []
 needed_of Check = codes "--journal" ∷ []
+needed_of Migrate = codes "--journal" ∷ codes "--to" ∷ []
 
 -- the words are pairs of an option and its value, these
 abbrev pub pairs_of : List Word → Option (List Pair)
@@ -127,6 +130,7 @@ rounds_for Init rounds = 0
 rounds_for Onboard rounds = 0
 rounds_for Once rounds = rounds
 rounds_for Check rounds = 0
+rounds_for Migrate rounds = 0
 
 -- what a command with these pairs sets; a text is empty and a number 0 where it lacks the option
 abbrev pub settings_for : Command → List Pair → Settings
@@ -140,6 +144,7 @@ settings_for command pairs = record {
   em_listen = [];
   orchestrator = given (codes "--orchestrator") [] pairs;
   vim = given (codes "--vim") [] pairs;
+  to = given (codes "--to") [] pairs;
   start = 0;
   count = 0;
 }

@@ -19,7 +19,8 @@ pub fn matches_of<'a>(alloc: Global, words: &'a [&'a str]) -> Result<ArgMatches<
         .arg(option(alloc, "role", "orchestrator"))?
         .arg(option(alloc, "rounds", "1"))?
         .arg(option(alloc, "orchestrator", ""))?
-        .arg(option(alloc, "vim", ""))?;
+        .arg(option(alloc, "vim", ""))?
+        .arg(option(alloc, "to", ""))?;
     all.try_get_matches_from(words)
 }
 

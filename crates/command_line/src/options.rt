@@ -14,6 +14,8 @@ pub enum Command {
     Once,
     /// Counts what a journal has.
     Check,
+    /// Makes a journal of the present format of one of format 1.
+    Migrate,
 }
 
 /// What the words set; empty or 0 where the command lacks it.
@@ -37,6 +39,8 @@ pub struct Settings {
     pub orchestrator: Text,
     /// Where the infrastructure is; empty where nothing is. A literal address:port.
     pub vim: Text,
+    /// Where the journal is migrated to; empty but for `migrate`.
+    pub to: Text,
     /// The start of a trial.
     pub start: u64,
     /// The steps of a trial.

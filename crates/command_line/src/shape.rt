@@ -41,6 +41,7 @@ pub fn command_named(name: &Text) -> Option<Command>
         "onboard" => Some(Command::Onboard),
         "once" => Some(Command::Once),
         "check" => Some(Command::Check),
+        "migrate" => Some(Command::Migrate),
         _ => None,
     }
 }
@@ -67,6 +68,7 @@ fn has_needed(command: Command, words: &[Text]) -> bool
     match command {
         Command::Init => stands("--journal", words) && stands("--manager", words),
         Command::Onboard | Command::Once | Command::Check => stands("--journal", words),
+        Command::Migrate => stands("--journal", words) && stands("--to", words),
     }
 }
 
@@ -120,6 +122,7 @@ pub fn has_option(command: Command, option: &str) -> bool
                 || option == "--orchestrator"
                 || option == "--vim"
         }
+        Command::Migrate => option == "--journal" || option == "--to",
     }
 }
 

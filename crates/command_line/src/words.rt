@@ -74,6 +74,7 @@ fn settings_by(
         em_listen: empty(alloc),
         orchestrator: text(alloc, matches, "orchestrator")?,
         vim: text(alloc, matches, "vim")?,
+        to: text(alloc, matches, "to")?,
         start: 0,
         count: 0,
     })
@@ -84,7 +85,7 @@ fn rounds_for(command: Command, rounds: u32) -> u32
     ensures { result ≡ rounds_for command rounds }
 {
     match command {
-        Command::Init | Command::Onboard | Command::Check => 0,
+        Command::Init | Command::Onboard | Command::Check | Command::Migrate => 0,
         Command::Once => rounds,
     }
 }

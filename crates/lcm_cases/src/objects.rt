@@ -1,6 +1,7 @@
 //! The objects in memory that a run of a command is made over, and what it did to them.
 
 use crate::recorder::PostRecorder;
+use case_lives::plain_site;
 use lcm_events::Role;
 use lcm_mouth::Mouth;
 use site_traits::{
@@ -66,7 +67,7 @@ impl Ran {
     }
 }
 
-/// The objects of a run, but for its site and its orchestrator.
+/// The objects of a run, but for its sites and its orchestrator.
 struct Objects {
     mouth: Mouth<MemDoor>,
     courier: PostRecorder,
@@ -156,12 +157,13 @@ fn has_heard(conn: &MemConn, told: &[u8]) -> bool {
 /// The moment that the clock gives where no act says so.
 pub const NOW: u64 = 1_700_000_000_000;
 
-/// Runs these words over this site, this door, this orchestrator, a courier whose posts are answered so, a sink of
-/// which this put fails, and a clock that gives this.
+/// Runs these words over this site and this spare one, this door, this orchestrator, a courier whose posts are answered
+/// so, a sink of which this put fails, and a clock that gives this.
 pub fn run_over<O: Orchestrator>(
     alloc: Global,
     words: &[Text],
     site: &mut MemSite,
+    spare: &mut MemSite,
     door: Vec<DoorPlan>,
     orchestrator: &mut O,
     receipts: Vec<PostPlan>,
@@ -173,6 +175,7 @@ pub fn run_over<O: Orchestrator>(
         alloc,
         words,
         site,
+        spare,
         &mut objects.mouth,
         orchestrator,
         &mut objects.courier,
@@ -237,12 +240,14 @@ fn ask_by(
     bytes: &[u8],
 ) -> Result<Ran, AllocError> {
     let mut orchestrator = MemOrchestrator::new(alloc, Vec::new(alloc))?;
+    let mut spare = plain_site(alloc, &[])?;
     let door = one_of(alloc, connection(alloc, bytes, bytes.len(), None, None)?)?;
     let receipts = Vec::new(alloc);
     run_over(
         alloc,
         words,
         site,
+        &mut spare,
         door,
         &mut orchestrator,
         receipts,

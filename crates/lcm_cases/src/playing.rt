@@ -186,7 +186,8 @@ fn delivers(stage: &mut Stage, alloc: Global, act: &[Value]) -> Result<(), ActFa
     }
 }
 
-/// Plays an act that says what goes otherwise on the site or at the command that is next, or another. On the next site
+/// Plays an act that says what goes otherwise on the site or at the command that is next, that swaps the sites, or
+/// another. On the next site
 ///
 /// - `["room", N]` there is room for so many jobs;
 /// - `["no fault"]` no disk call fails that `["fault", N..]` said before;
@@ -210,6 +211,7 @@ fn plans(stage: &mut Stage, alloc: Global, act: &[Value]) -> Result<(), ActFault
         "nobody" => stage.plan_door_as(DoorPlan::Nobody)?,
         "no door" => stage.plan_door_as(DoorPlan::NextFails)?,
         "says nothing" => stage.plan_grant(GrantPlan::Fail)?,
+        "swap" => stage.swap_sites(),
         _ => return runs(stage, alloc, act),
     }
     Ok(())
@@ -229,6 +231,7 @@ fn plays(stage: &mut Stage, alloc: Global, act: &[Value]) -> Result<(), ActFault
         "work" => played(stage.plan_work(alloc, act)),
         "fault" => played(stage.plan_faults(alloc, act)),
         "site" => played(stage.make_site(alloc, act)),
+        "spare" => played(stage.make_spare(alloc, act)),
         "base" => played(stage.take_base(alloc)),
         "door" => played(stage.plan_door(alloc, part(act, 1)?)),
         "bad door" => played(stage.plan_bad_door(alloc, act)),

@@ -1,4 +1,4 @@
-//! Acts that prepare a command: texts, the site, the connections and the answers of the outside.
+//! Acts that prepare a command: texts, the sites, the connections and the answers of the outside.
 
 use crate::objects::{connection, put_piece};
 use crate::stage::Stage;
@@ -7,6 +7,7 @@ use lcm_events::Role;
 use serde_json::Value;
 use site_traits::{Arrival, DoorPlan, GrantPlan, JobEnd, JobPlan, PostPlan};
 use std::alloc::{AllocError, Global};
+use std::mem;
 use vnfm_base::{Bytes, Line};
 
 /// A begin that is taken, whose job is done at the first look and can be aborted.
@@ -147,6 +148,20 @@ impl Stage {
         self.base = self.names.text(alloc, part(act, 1)?)?;
         self.site = self.plan.site(alloc, &self.base)?;
         Ok(())
+    }
+
+    /// `["spare", TEXT]`: the site of the file to which a journal is migrated has this file, by the plan. Where no act
+    /// says so, a run begins with one of an empty file, on which each call comes through.
+    pub fn make_spare(&mut self, alloc: Global, act: &[Value]) -> Result<(), CaseFault> {
+        let file = self.names.text(alloc, part(act, 1)?)?;
+        self.spare = self.plan.site(alloc, &file)?;
+        Ok(())
+    }
+
+    /// `["swap"]`: the site and the spare one change places, so that the file to which a journal was migrated is
+    /// compared, stopped or opened as the site's.
+    pub fn swap_sites(&mut self) {
+        mem::swap(&mut self.site, &mut self.spare);
     }
 
     /// Plans a connection with this text, of which this read and this write fail, from 1, where they aren't 0.

@@ -1,5 +1,5 @@
-//! Acts that start the program over a file and streams in memory, of whose calls some go wrong: its status, what it
-//! prints and tells, and the file that it leaves.
+//! Acts that start the program over files and streams in memory, of whose calls some go wrong: its status, what it
+//! prints and tells, and the files that it leaves.
 ghost use Rattle.std.specs.Prelude.{◌≡◌, ◌≤◌, ◌+◌, length, true};
 
 use crate::checks::{holds, same_number};
@@ -10,7 +10,7 @@ use lcm_events::Role;
 use lcm_mouth::Mouth;
 use outside_edges::{NoCourier, NoJobs, NoOrchestrator, RealClock, RealDoor, RealSink, RealSite};
 use serde_json::Value;
-use site_traits::Site;
+use site_traits::{Sink, Site};
 use standard_streams::{HeldStreams, NullDevice};
 use std::alloc::{AllocError, Global};
 use std::io;
@@ -21,11 +21,11 @@ use vnfm_program::{Machine, start};
 /// Which calls go wrong, and how many bytes a stream handles at once. Each object has its own, and counts its own
 /// calls.
 #[derive(Clone, Copy)]
-struct Wrong<'a> {
+struct Wrong {
     /// The most bytes that a call on a stream takes or gives. A read gives one at least, where there is one.
     piece: usize,
     /// The name of the calls that go wrong.
-    call: &'a str,
+    call: &'static str,
     /// The first of these that does, from 1.
     first: u64,
     /// The last of these that does.
@@ -36,7 +36,7 @@ struct Wrong<'a> {
     calls: u64,
 }
 
-impl Wrong<'_> {
+impl Wrong {
     /// Fails where a call of this name goes wrong now.
     fn pass(&mut self, call: &str) -> io::Result<()> {
         if call != self.call {
@@ -72,12 +72,12 @@ impl NullDevice for Null {
 
 /// A file in memory.
 #[derive(Drop)]
-struct MemFile<'a> {
+struct MemFile {
     bytes: Vec<u8>,
-    wrong: Wrong<'a>,
+    wrong: Wrong,
 }
 
-impl HostFile for MemFile<'_> {
+impl HostFile for MemFile {
     ghost use Rattle.site_traits.specs.Site.{untold};
     ghost use Rattle.host_calls.specs.Files.{whole};
 
@@ -144,13 +144,25 @@ fn place_of(at: u64) -> usize {
     usize::try_from(at).unwrap_or(usize::MAX)
 }
 
-/// A folder with this file or with none, whatever its path, and where one can be made.
+/// The path of the file to which a journal is migrated.
+const NEW: &str = "new";
+
+/// A folder with one file or none at the path `new`, and with another or none at each other path, and where one can be
+/// made.
 #[derive(Drop)]
 struct MemFiles<'a> {
     alloc: Global,
     file: Option<&'a [u8]>,
-    wrong: Wrong<'a>,
+    new: Option<&'a [u8]>,
+    wrong: Wrong,
     made: u64,
+}
+
+impl<'a> MemFiles<'a> {
+    /// The file at this path, where there is one.
+    fn at(&self, path: &str) -> Option<&'a [u8]> {
+        if path == NEW { self.new } else { self.file }
+    }
 }
 
 impl<'a> HostFiles for MemFiles<'a> {
@@ -158,7 +170,7 @@ impl<'a> HostFiles for MemFiles<'a> {
 
     type Opened = MemOpened;
 
-    type File = MemFile<'a>;
+    type File = MemFile;
 
     type Held = Held;
 
@@ -170,9 +182,9 @@ impl<'a> HostFiles for MemFiles<'a> {
 
     ghost hold = { λ _. whole };
 
-    fn open(&mut self, _streams: &HeldStreams<Held>, _path: &str) -> io::Result<MemOpened> {
+    fn open(&mut self, _streams: &HeldStreams<Held>, path: &str) -> io::Result<MemOpened> {
         self.wrong.pass("open")?;
-        let Some(file) = self.file else {
+        let Some(file) = self.at(path) else {
             return Err(io::Error::from(ErrorKind::NotFound));
         };
         Ok(MemOpened {
@@ -205,7 +217,7 @@ impl<'a> HostFiles for MemFiles<'a> {
         self.wrong.pass("pages")
     }
 
-    fn lend(&mut self, opened: MemOpened) -> MemFile<'a> {
+    fn lend(&mut self, opened: MemOpened) -> MemFile {
         MemFile {
             bytes: opened.bytes,
             wrong: self.wrong,
@@ -217,7 +229,7 @@ impl<'a> HostFiles for MemFiles<'a> {
 #[derive(Drop)]
 struct Coming<'a> {
     left: &'a [u8],
-    wrong: Wrong<'a>,
+    wrong: Wrong,
 }
 
 impl InStream for Coming<'_> {
@@ -244,7 +256,7 @@ impl InStream for Coming<'_> {
 struct Going<'a> {
     name: &'a str,
     out: &'a mut Vec<u8>,
-    wrong: Wrong<'a>,
+    wrong: Wrong,
 }
 
 impl OutStream for Going<'_> {
@@ -300,10 +312,12 @@ impl TimeOfDay for Day {
 struct Before<'a> {
     /// The file that stands at the path, where one does.
     file: Option<&'a [u8]>,
+    /// The file that stands at the path `new`, where one does.
+    new: Option<&'a [u8]>,
     /// What comes in.
     input: &'a [u8],
     /// The calls that go wrong.
-    wrong: Wrong<'a>,
+    wrong: Wrong,
     /// Whether there is memory for the mouth.
     has_mouth: bool,
 }
@@ -322,6 +336,8 @@ struct Seen {
     errors: Vec<u8>,
     /// The file's bytes, where it was had.
     left: Option<Vec<u8>>,
+    /// Those of the file to which a journal is migrated, where it was had.
+    new_left: Option<Vec<u8>>,
 }
 
 impl Drop for Seen {
@@ -334,6 +350,7 @@ impl Drop for Seen {
             lines: _,
             errors: _,
             left: _,
+            new_left: _,
         } = self;
     }
 }
@@ -399,6 +416,8 @@ struct Left {
     made: u64,
     /// The file's bytes, where it was had.
     file: Option<Vec<u8>>,
+    /// Those of the file to which a journal is migrated, where it was had.
+    new: Option<Vec<u8>>,
 }
 
 /// Starts the program with these arguments over this, with what it tells and prints put here.
@@ -412,35 +431,63 @@ fn play(
 ) -> Left {
     let wrong = before.wrong;
     let mut mouth = mouth_at(alloc, before, told);
-    let mut machine = Machine {
-        device: Null,
-        files: MemFiles {
+    let mut machine = machine_of(
+        MemFiles {
             alloc,
             file: before.file,
+            new: before.new,
             wrong,
             made: 0,
         },
-        site: RealSite::made(NoJobs::made()),
-        orchestrator: NoOrchestrator::made(),
-        courier: NoCourier::made(),
-        clock: RealClock::made(Day),
-        lines: RealSink::made(Going {
+        RealSink::made(Going {
             name: "print",
             out: lines,
             wrong,
         }),
-        errors: RealSink::made(Going {
+        RealSink::made(Going {
             name: "tell",
             out: errors,
             wrong,
         }),
-    };
+    );
     let status = start(alloc, Ok(arguments.into_iter()), &mut mouth, &mut machine);
+    let made = machine.files.made;
+    let (file, new) = contents(alloc, &mut machine);
     Left {
         status,
-        made: machine.files.made,
-        file: content(alloc, &mut machine.site),
+        made,
+        file,
+        new,
     }
+}
+
+/// A machine over these files and sinks, with no peers.
+fn machine_of<H: HostFiles, L: Sink, E: Sink>(
+    files: H,
+    lines: L,
+    errors: E,
+) -> Machine<Null, H, NoJobs, NoOrchestrator, NoCourier, RealClock<Day>, L, E> {
+    Machine {
+        device: Null,
+        files,
+        site: RealSite::made(NoJobs::made()),
+        spare: RealSite::made(NoJobs::made()),
+        orchestrator: NoOrchestrator::made(),
+        courier: NoCourier::made(),
+        clock: RealClock::made(Day),
+        lines,
+        errors,
+    }
+}
+
+/// The bytes of the file of each of its sites, where it was had.
+fn contents<H: HostFiles, L: Sink, E: Sink>(
+    alloc: Global,
+    machine: &mut Machine<Null, H, NoJobs, NoOrchestrator, NoCourier, RealClock<Day>, L, E>,
+) -> (Option<Vec<u8>>, Option<Vec<u8>>) {
+    let file = content(alloc, &mut machine.site);
+    let new = content(alloc, &mut machine.spare);
+    (file, new)
 }
 
 /// What comes of these arguments over this.
@@ -456,6 +503,7 @@ fn seen_of(alloc: Global, arguments: Vec<String>, before: Before<'_>) -> Seen {
         lines,
         errors,
         left: left.file,
+        new_left: left.new,
     }
 }
 
@@ -481,8 +529,30 @@ fn kind_of(name: &str) -> Result<ErrorKind, CaseFault> {
     }
 }
 
+/// The name of a call that may go wrong.
+fn call_of(name: &str) -> Result<&'static str, CaseFault> {
+    match name {
+        "open" => Ok("open"),
+        "create" => Ok("create"),
+        "folder" => Ok("folder"),
+        "kind" => Ok("kind"),
+        "lock" => Ok("lock"),
+        "pages" => Ok("pages"),
+        "regular" => Ok("regular"),
+        "length" => Ok("length"),
+        "read" => Ok("read"),
+        "write" => Ok("write"),
+        "sync" => Ok("sync"),
+        "receive" => Ok("receive"),
+        "send" => Ok("send"),
+        "print" => Ok("print"),
+        "tell" => Ok("tell"),
+        _ => Err(CaseFault::Spelling),
+    }
+}
+
 /// What goes wrong by a plan: the pieces, the name of the calls, the first and the last of them, and their fault.
-fn wrong_of(plan: &Value) -> Result<Wrong<'_>, CaseFault> {
+fn wrong_of(plan: &Value) -> Result<Wrong, CaseFault> {
     let Some(wrong) = plan.get("wrong") else {
         return Ok(Wrong {
             piece: usize::MAX,
@@ -496,7 +566,7 @@ fn wrong_of(plan: &Value) -> Result<Wrong<'_>, CaseFault> {
     let wrong = entries(wrong)?;
     Ok(Wrong {
         piece: count(wrong, 0)?,
-        call: word(wrong, 1)?,
+        call: call_of(word(wrong, 1)?)?,
         first: number(wrong, 2)?,
         last: number(wrong, 3)?,
         kind: kind_of(word(wrong, 4)?)?,
@@ -509,9 +579,9 @@ fn is_told(alloc: Global, text: Option<Vec<u8>>, seen: &Seen) -> Result<(), ActF
     same_text(alloc, text.as_deref().unwrap_or(b""), &seen.told)
 }
 
-/// The program left this; no file, where there is no text.
-fn is_left(alloc: Global, text: Option<Vec<u8>>, seen: &Seen) -> Result<(), ActFault> {
-    match (text.as_deref(), seen.left.as_deref()) {
+/// The program left this of a file of which that was had; no file, where there is no text.
+fn is_left(alloc: Global, text: Option<Vec<u8>>, left: Option<&[u8]>) -> Result<(), ActFault> {
+    match (text.as_deref(), left) {
         (Some(wanted), Some(came)) => same_file(alloc, wanted, came),
         (Some(_), None) => holds(alloc, false, "a file that was had", "none"),
         (None, Some(_)) => holds(alloc, false, "no file that was had", "one"),
@@ -550,7 +620,16 @@ impl Stage {
     /// A plan has this as what is told and left.
     fn is_planned(&self, alloc: Global, seen: &Seen, plan: &Value) -> Result<(), ActFault> {
         is_told(alloc, self.planned(alloc, plan, "told")?, seen)?;
-        is_left(alloc, self.planned(alloc, plan, "left")?, seen)
+        is_left(
+            alloc,
+            self.planned(alloc, plan, "left")?,
+            seen.left.as_deref(),
+        )?;
+        is_left(
+            alloc,
+            self.planned(alloc, plan, "new left")?,
+            seen.new_left.as_deref(),
+        )
     }
 
     /// The program with the words of this act, over this, comes to what the act and its plan have.
@@ -569,13 +648,14 @@ impl Stage {
 
     /// `["start", WORDS, STATUS, PRINTED, ERRORS, MADE, PLAN]`: the program with these words ends with this status,
     /// prints this to standard output and that to standard error, and makes so many files. Where the plan, an object,
-    /// has a `file`, that stands at the path, and what it has as `input` comes in. What it has as `told` is told on the
-    /// connection, and `left` are the bytes of the file, which it has exactly where that was had.
+    /// has a `file`, that stands at each path but `new`, where its `new` stands, and what it has as `input` comes in.
+    /// What it has as `told` is told on the connection. Of the journal's file `left` are the bytes, and of the one to
+    /// which that is migrated `new left`, each of which it has exactly where that file was had.
     ///
     /// `"wrong": [PIECE, CALL, FIRST, LAST, KIND]` in it: streams take and give PIECE bytes at once at most, and of the
     /// calls of this name on an object the FIRST to the LAST fail with this `ErrorKind`: of the folder `open`, `create`
-    /// and `folder`, a sync of it; of the file `kind`, `lock`, `pages`,
-    /// `length`, `read`, `write` and `sync`, and `regular`, where it isn't; of the streams `receive` and `send` on the
+    /// and `folder`, a sync of it, and of a file that is opened `kind`, `lock`, `pages`, and `regular`, where it isn't;
+    /// of each file that is lent `length`, `read`, `write` and `sync`; of the streams `receive` and `send` on the
     /// connection, `print` and `tell` on standard output and standard error, which write a piece before they fail.
     ///
     /// `["start without a mouth", ..]` is the same where there was no memory for the mouth.
@@ -583,9 +663,11 @@ impl Stage {
         let plan = act.get(6).unwrap_or(&Value::Null);
         let wrong = wrong_of(plan)?;
         let file = self.planned(alloc, plan, "file")?;
+        let new = self.planned(alloc, plan, "new")?;
         let input = self.planned(alloc, plan, "input")?;
         let before = Before {
             file: file.as_deref(),
+            new: new.as_deref(),
             input: input.as_deref().unwrap_or(b""),
             wrong,
             has_mouth,

@@ -23,7 +23,7 @@ fn role_word(role: Role) -> &'static str {
 }
 
 /// What is set, as an act spells it: the command, the journal, the manager, the role, the rounds, both addresses, the
-/// orchestrator, the infrastructure, and the start and the steps of a trial.
+/// orchestrator, the infrastructure, where the journal is migrated to, and the start and the steps of a trial.
 fn spelled(alloc: Global, set: &Settings) -> Result<String, AllocError> {
     let (command, journal, manager, role) = (
         set.command,
@@ -33,9 +33,11 @@ fn spelled(alloc: Global, set: &Settings) -> Result<String, AllocError> {
     );
     let (rounds, listen, em_listen) = (set.rounds, set.listen.as_str(), set.em_listen.as_str());
     let (orchestrator, vim) = (set.orchestrator.as_str(), set.vim.as_str());
-    let (start, count) = (set.start, set.count);
+    let (to, start, count) = (set.to.as_str(), set.start, set.count);
+    let addresses = format!(in alloc; "{listen:?} {em_listen:?} {orchestrator:?} {vim:?}")?;
     format!(in alloc;
-        "{command:?} {journal:?} {manager} {role} {rounds} {listen:?} {em_listen:?} {orchestrator:?} {vim:?} {start} {count}"
+        "{command:?} {journal:?} {manager} {role} {rounds} {} {to:?} {start} {count}",
+        addresses.as_str()
     )
 }
 
@@ -48,7 +50,7 @@ fn set_by(alloc: Global, words: &[Text]) -> Result<String, AllocError> {
     }
 }
 
-/// Why the journal was lost, by its word; nothing where the word is empty.
+/// Why a file was lost, by its word; nothing where the word is empty.
 fn lost_by(word: &str) -> Result<Option<WhyLost>, CaseFault> {
     Ok(Some(match word {
         "" => return Ok(None),
@@ -83,9 +85,10 @@ fn line_of(
     words: &[Text],
     status: u8,
     lost: Option<WhyLost>,
+    spare: Option<WhyLost>,
     undelivered: bool,
 ) -> Result<String, AllocError> {
-    match reason_of(status, lost, undelivered, Account::new()) {
+    match reason_of(status, lost, spare, undelivered, Account::new()) {
         Some(reason) => reason.line(alloc, words),
         None => Ok(String::new(alloc)),
     }
@@ -106,17 +109,19 @@ impl Stage {
         is_text(alloc, &set_by(alloc, &words)?, act, 2)
     }
 
-    /// `["line", WORDS, STATUS, LOST, UNDELIVERED, LINE]`: a run with these words that ended with this status, lost its
-    /// journal so and couldn't deliver an answer, where it says so, is explained by this line.
+    /// `["line", WORDS, STATUS, LOST, SPARE, UNDELIVERED, LINE]`: a run with these words that ended with this status,
+    /// lost its journal so and the file to which that is migrated so, and couldn't deliver an answer, where it says so,
+    /// is explained by this line.
     pub fn is_explained(&self, alloc: Global, act: &[Value]) -> Result<(), ActFault> {
-        let (status, lost, undelivered) = (
+        let (status, lost, spare, undelivered) = (
             status(act, 2)?,
             lost_by(word(act, 3)?)?,
-            truth(act, 4)?,
+            lost_by(word(act, 4)?)?,
+            truth(act, 5)?,
         );
         let words = command_of(alloc, list(act, 1)?)?;
-        let line = line_of(alloc, &words, status, lost, undelivered)?;
-        is_text(alloc, &line, act, 5)
+        let line = line_of(alloc, &words, status, lost, spare, undelivered)?;
+        is_text(alloc, &line, act, 6)
     }
 
     /// `["page", WORDS, FRONT]`: these words ask for a page that begins so; for none where that is empty.

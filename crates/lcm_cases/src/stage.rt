@@ -1,4 +1,4 @@
-//! What the acts of a run have before them: the site and the plans of the objects, and what the last command did.
+//! What the acts of a run have before them: the sites and the plans of the objects, and what the last command did.
 
 use crate::objects::{NOW, Ran};
 use case_lives::{Earlier, Names, Plan, Step, Stop, Whole, plain_site};
@@ -67,6 +67,8 @@ pub struct Stage {
     pub peer: MemOrchestrator,
     /// The site.
     pub site: MemSite,
+    /// The site of the file to which a journal is migrated.
+    pub spare: MemSite,
     /// The file behind which steps are recorded.
     pub base: Vec<u8>,
     /// The file before the last command.
@@ -97,6 +99,7 @@ impl Drop for Stage {
             granting: _,
             peer: _,
             site: _,
+            spare: _,
             base: _,
             before: _,
             ran: _,
@@ -115,6 +118,7 @@ impl Stage {
     pub fn new(alloc: Global) -> Result<Stage, AllocError> {
         let whole = Whole::none(alloc)?;
         let site = plain_site(alloc, &[])?;
+        let spare = plain_site(alloc, &[])?;
         let granting = GrantAll::new(alloc)?;
         let peer = MemOrchestrator::new(alloc, Vec::new(alloc))?;
         Ok(Stage {
@@ -124,6 +128,7 @@ impl Stage {
             granting,
             peer,
             site,
+            spare,
             base: Vec::new(alloc),
             before: Vec::new(alloc),
             ran: Ran::none(alloc),
@@ -136,9 +141,10 @@ impl Stage {
         })
     }
 
-    /// Begins a run: nothing is planned, and nothing was asked of the orchestrator.
+    /// Begins a run: nothing is planned, nothing was asked of the orchestrator, and the spare site has an empty file.
     pub fn begin(&mut self, alloc: Global) -> Result<(), AllocError> {
         self.granting = GrantAll::new(alloc)?;
+        self.spare = plain_site(alloc, &[])?;
         self.plan = Plan::new(alloc);
         self.outside = Surroundings::new(alloc);
         self.earlier = Earlier::none();

@@ -9,14 +9,14 @@ use http_peers::{RealCourier, RealOrchestrator, TargetFault};
 use lcm_mouth::Mouth;
 use net_calls::{StdNet, StdStopwatch};
 use net_door::RealDoor;
-use outside_edges::{FolderSync, RealClock, RealSink, RealSite};
+use outside_edges::{FolderSync, NoJobs, RealClock, RealSink, RealSite};
 use standard_streams::{NullFiles, hold_streams};
 use std::cell::Cell;
 use std::env;
 use std::process::ExitCode;
 use vim_peers::VimPeer;
 use vnfm_base::Text;
-use vnfm_cli::{run, settings};
+use vnfm_cli::{Command, run, settings};
 
 fn main(rt: HostRuntime) -> Result<ExitCode> {
     let mut words = Vec::new(rt.alloc());
@@ -51,10 +51,16 @@ fn obey(rt: &HostRuntime, orchestrator: &str, element: &str, command: &[Text]) -
     let mut site = RealSite::made(vim);
     let path = set.journal.as_str();
     site.open(&mut StdFiles::of(rt), &streams, path, FolderSync::WhereMade)?;
+    let mut spare = RealSite::made(NoJobs::made());
+    if let Command::Migrate = set.command {
+        let path = set.to.as_str();
+        spare.open(&mut StdFiles::of(rt), &streams, path, FolderSync::Always)?;
+    }
     Ok(run(
         rt.alloc(),
         command,
         &mut site,
+        &mut spare,
         &mut Mouth::new(rt.alloc(), door)?,
         &mut asked,
         &mut RealCourier::made(rt.alloc(), net(), StdStopwatch::of(rt), &pulse)?,

@@ -1,6 +1,6 @@
 -- The line that says why a run ended as it did (own rule, docs/FORMATS.md).
-use Rattle.std.specs.Prelude.{◌≡◌, ◌||◌, ℕ, List, [], ◌∷◌, ◌++◌, codes, decimal, drop, if◌then◌else◌, Option, Some}
-use Rattle.std.specs.Prelude.{None, slice_get}
+use Rattle.std.specs.Prelude.{◌≡◌, ◌||◌, ℕ, List, [], ◌∷◌, ◌++◌, Bool, true, false, codes, decimal, drop}
+use Rattle.std.specs.Prelude.{if◌then◌else◌, Option, Some, None, slice_get}
 use Rattle.std.specs.Str.{bytes_eq}
 use Rattle.command_line.specs.Words.{value_in}
 use Rattle.outside_edges.specs.declared.real_site.WhyLost.{WhyLost}
@@ -8,13 +8,13 @@ use Rattle.outside_edges.specs.declared.real_site.WhyLost.TheVariants as why
 use Rattle.program_words.specs.Wrong.{wrong_of}
 use Rattle.program_words.specs.declared.reason.Reason.{Reason}
 use Rattle.program_words.specs.declared.reason.Reason.TheVariants as say
-use Rattle.program_words.specs.declared.reason.TheConstants.{ADVICE}
+use Rattle.program_words.specs.declared.reason.TheConstants.{ADVICE, NO_JOURNAL}
 use Rattle.program_words.specs.declared.wrong.Wrong.{Wrong}
 use Rattle.served_account.specs.declared.account.Hearing.{Hearing}
 use Rattle.served_account.specs.declared.account.Hearing.TheVariants as hearing
 use Rattle.served_account.specs.declared.account.JsonBreak.{JsonBreak}
 use Rattle.program_words.specs.declared.wrong.Wrong.TheVariants.{Word, NotBuilt, Twice, NoCommand, NoValue, Value}
-use Rattle.program_words.specs.declared.wrong.Wrong.TheVariants.{NoJournal, NoManager, Nothing}
+use Rattle.program_words.specs.declared.wrong.Wrong.TheVariants.{NoJournal, NoManager, NoTo, Nothing}
 
 -- a line that says this
 abbrev pub plain_line : List ℕ → List ℕ
@@ -24,7 +24,7 @@ plain_line text = codes "vnfm: " ++ text ++ codes "\n"
 abbrev pub IsLineOn : List ℕ → List ℕ → List ℕ → Type 0
 IsLineOn joint text line = (quoted : List ℕ) × (line ≡ codes "vnfm: " ++ (quoted ++ (joint ++ (text ++ codes "\n"))))
 
--- a line that says this of the journal's path, where there is one
+-- a line that says this of a path, where there is one
 abbrev pub IsAboutPath : Option (List ℕ) → List ℕ → List ℕ → Type 0
 IsAboutPath (Some path) text line = IsLineOn (codes ": ") text line
 IsAboutPath None text line = line ≡ plain_line text
@@ -33,9 +33,22 @@ IsAboutPath None text line = line ≡ plain_line text
 abbrev pub path_in : List (List ℕ) → Option (List ℕ)
 path_in words = value_in (codes "--journal") (drop 1 words)
 
+-- the path that the journal goes to, where the words name one behind `--to`
+abbrev pub path_to : List (List ℕ) → Option (List ℕ)
+path_to words = value_in (codes "--to") (drop 1 words)
+
 -- a line that says this of the journal's path
 abbrev pub IsAboutJournal : List (List ℕ) → List ℕ → List ℕ → Type 0
 IsAboutJournal words text line = IsAboutPath (path_in words) text line
+
+-- a line that says this of the path that the journal goes to
+abbrev pub IsAboutSpare : List (List ℕ) → List ℕ → List ℕ → Type 0
+IsAboutSpare words text line = IsAboutPath (path_to words) text line
+
+-- the words are those of `migrate`, by the command's name
+abbrev pub are_to_migrate : List (List ℕ) → Bool
+are_to_migrate [] = false
+are_to_migrate (name ∷ rest) = bytes_eq name (codes "migrate")
 
 -- a line that says this of one of the words
 abbrev pub IsAboutWord : List ℕ → Option (List ℕ) → List ℕ → Type 0
@@ -74,6 +87,7 @@ IsWrongLine words (Value place) line = IsAboutValue (drop place words) line
 IsWrongLine words NoCommand line = line ≡ plain_line (codes "a command is missing; vnfm --help says more")
 IsWrongLine words NoJournal line = line ≡ plain_line (codes "--journal PATH is missing; vnfm --help says more")
 IsWrongLine words NoManager line = line ≡ plain_line (codes "--manager N is missing; vnfm --help says more")
+IsWrongLine words NoTo line = line ≡ plain_line (codes "--to PATH is missing; vnfm --help says more")
 IsWrongLine words Nothing line = line ≡ plain_line (codes "the words are no command; vnfm --help says more")
 
 -- what is said where there is no such folder: of an empty path that it is empty
@@ -117,24 +131,42 @@ abbrev pub unanswered_line : ℕ → List ℕ → List ℕ
 unanswered_line answered text =
     codes "vnfm: requests answered: " ++ (decimal answered ++ (codes "; " ++ (text ++ codes "\n")))
 
+-- the line of a file that is no journal: of one that is to be migrated that it is none of format 1
+abbrev pub IsNoJournalLine : Bool → List (List ℕ) → List ℕ → Type 0
+IsNoJournalLine true words line = IsAboutJournal words (codes "no journal of format 1 stands there") line
+IsNoJournalLine false words line = IsAboutJournal words NO_JOURNAL.now line
+
+-- the line of a journal that has no room: of the one that the old one goes to that it would be too long
+abbrev pub IsRoomLine : Bool → List (List ℕ) → List ℕ → Type 0
+IsRoomLine true words line = IsAboutSpare words
+    (codes "a journal of the present format would be longer than one may be") line
+IsRoomLine false words line = IsAboutJournal words (codes "it has no room for what was to be recorded") line
+
+-- the line of a file that is taken: of the one that the journal goes to that it is none of the same manager
+abbrev pub IsTakenLine : Bool → List (List ℕ) → List ℕ → Type 0
+IsTakenLine true words line = IsAboutSpare words (codes
+    "it is not an unfinished journal of the same manager; give another path, or move it away") line
+IsTakenLine false words line = IsAboutJournal words (codes
+    "it is a journal already, or no file of this program's; give another path, or move it away") line
+
 -- the line of a reason, of a run with these words
 abbrev pub IsLineOf : Reason → List (List ℕ) → List ℕ → Type 0
 IsLineOf say.Illegible words line = line ≡ plain_line
     (codes "a word isn't UTF-8, so none of them counts; vnfm --help says more")
 IsLineOf say.Words words line = IsWrongLine words (wrong_of words) line
 IsLineOf (say.Lost why) words line = IsAboutJournal words (lost_text why (path_in words)) line
+IsLineOf (say.LostSpare why) words line = IsAboutSpare words (lost_text why (path_to words)) line
 IsLineOf say.NoDevice words line = line ≡ plain_line
     (codes "/dev/null couldn't be opened, which holds the places of closed standard streams")
 IsLineOf say.Input words line = line ≡ plain_line (codes "standard input couldn't be read")
-IsLineOf say.NoJournal words line = IsAboutJournal words (codes "it is not a journal that init has finished") line
+IsLineOf say.NoJournal words line = IsNoJournalLine (are_to_migrate words) words line
 IsLineOf say.NoMemory words line = line ≡ plain_line (codes "there was no memory")
 IsLineOf say.Output words line = line ≡ plain_line (codes "the last line couldn't be written")
 IsLineOf say.Record words line = IsAboutJournal words (codes "it has a record that is broken or isn't allowed there")
     line
-IsLineOf say.Room words line = IsAboutJournal words (codes "it has no room for what was to be recorded") line
+IsLineOf say.Room words line = IsRoomLine (are_to_migrate words) words line
 IsLineOf (say.Descriptor at) words line = line ≡ descriptor_line at
-IsLineOf say.Taken words line = IsAboutJournal words (codes
-    "it is a journal already, or no file of this program's; give another path, or move it away") line
+IsLineOf say.Taken words line = IsTakenLine (are_to_migrate words) words line
 IsLineOf say.Undelivered words line = line ≡ plain_line
     (codes "the answer couldn't be delivered; what it says is recorded")
 IsLineOf say.NoRequest words line = line ≡ plain_line (codes "standard input had no request")

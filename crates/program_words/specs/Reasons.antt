@@ -7,10 +7,12 @@ use Rattle.served_account.specs.declared.account.Account.{Account}
 use Rattle.served_account.specs.declared.account.Hearing.{Hearing}
 use Rattle.served_account.specs.declared.account.Hearing.TheVariants as hearing
 
--- of a run whose disk call failed: why its file was lost, or that none could be opened at all
-abbrev pub lost_reason : Option WhyLost → Reason
-lost_reason (Some why) = say.Lost why
-lost_reason None = say.NoDevice
+-- of a run whose disk call failed: why its file was lost, or that to which the journal goes, or that none could be
+-- opened at all
+abbrev pub lost_reason : Option WhyLost → Option WhyLost → Reason
+lost_reason (Some why) spare = say.Lost why
+lost_reason None (Some why) = say.LostSpare why
+lost_reason None None = say.NoDevice
 
 -- where so many requests were answered: that there was none, or that the bytes that were left weren't answered
 abbrev pub hearing_reason : ℕ → Hearing → Option Reason
@@ -25,11 +27,11 @@ delivery_reason true account = Some say.Undelivered
 delivery_reason false account = hearing_reason account.answered account.last
 
 -- of a run by its status
-abbrev pub reason_of : ℕ → Option WhyLost → Bool → Account → Option Reason
-reason_of status lost undelivered account =
+abbrev pub reason_of : ℕ → Option WhyLost → Option WhyLost → Bool → Account → Option Reason
+reason_of status lost spare undelivered account =
     if status == 0 then delivery_reason undelivered account
     else (if status == 2 then Some say.Words
-    else (if status == 3 then Some (lost_reason lost)
+    else (if status == 3 then Some (lost_reason lost spare)
     else (if status == 4 then Some say.Input
     else (if status == 5 then Some say.NoJournal
     else (if status == 6 then Some say.NoMemory

@@ -5,10 +5,10 @@ use Rattle.std.specs.List.{list_any}
 use Rattle.std.specs.Str.{bytes_eq}
 use Rattle.command_line.specs.Words.{Word as Bytes, command_named, options_of, takes}
 use Rattle.command_line.specs.declared.options.Command.{Command}
-use Rattle.command_line.specs.declared.options.Command.TheVariants.{Check, Init, Onboard, Once}
+use Rattle.command_line.specs.declared.options.Command.TheVariants.{Check, Init, Migrate, Onboard, Once}
 use Rattle.program_words.specs.declared.wrong.Wrong.{Wrong}
 use Rattle.program_words.specs.declared.wrong.Wrong.TheVariants.{Word, NotBuilt, Twice, NoCommand, NoValue, Value}
-use Rattle.program_words.specs.declared.wrong.Wrong.TheVariants.{NoJournal, NoManager, Nothing}
+use Rattle.program_words.specs.declared.wrong.Wrong.TheVariants.{NoJournal, NoManager, NoTo, Nothing}
 
 -- the word is among these
 abbrev pub is_among : List Bytes → Bytes → Bool
@@ -24,12 +24,22 @@ needs_manager Init = true
 needs_manager Onboard = false
 needs_manager Once = false
 needs_manager Check = false
+needs_manager Migrate = false
+
+-- the command has to have a path that the journal goes to
+abbrev pub needs_to : Command → Bool
+needs_to Init = false
+needs_to Onboard = false
+needs_to Once = false
+needs_to Check = false
+needs_to Migrate = true
 
 -- what is wrong where the words end: an option that has to stand doesn't
 abbrev pub wrong_at_end : Command → List Bytes → Wrong
 wrong_at_end command words =
     if not (is_among words (codes "--journal")) then NoJournal
-    else (if needs_manager command && not (is_among words (codes "--manager")) then NoManager else Nothing)
+    else (if needs_manager command && not (is_among words (codes "--manager")) then NoManager
+    else (if needs_to command && not (is_among words (codes "--to")) then NoTo else Nothing))
 
 -- what is wrong with a word that is no new option: it stands twice, or is none of the command's
 abbrev pub misplaced : Command → List Bytes → Bytes → Wrong

@@ -17,6 +17,8 @@ pub enum Page {
     Once,
     /// What those of `check` are.
     Check,
+    /// What those of `migrate` are.
+    Migrate,
     /// The program's version.
     Version,
 }
@@ -28,6 +30,7 @@ const HELP: &str = "vnfm: a VNF lifecycle manager after ETSI GS NFV-SOL 003 V2.6
     vnfm onboard --journal PATH             onboard the descriptor on standard input, a JSON document
     vnfm once --journal PATH [OPTION..]     answer the requests on standard input, and record what they ask for
     vnfm check --journal PATH               count what the journal at PATH has, and change nothing
+    vnfm migrate --journal PATH --to PATH   make a journal of the present format of one of format 1
     vnfm COMMAND --help                     print the words of a command, with an example
     vnfm --help                             print this text
     vnfm --version                          print the version
@@ -36,7 +39,8 @@ Options stand behind the command in any order, each at most once with its value,
 
 init takes a file that isn't there, is empty or has one byte, begins with a small v, or was left unfinished by an
 init of the same manager. It overwrites what such a file holds. Any other file is taken, and stays as it is: look at
-what it is, and give another PATH, or move it away first.
+what it is, and give another PATH, or move it away first. migrate does the same with the file at --to, for the
+manager of the journal that it reads.
 
 The answer of once goes to standard output. A last line, of once on standard error and else on standard output, says
 how it went:
@@ -44,17 +48,18 @@ how it went:
     0  onboarded ID: V vdus, A aspects, L levels
     0  done after N rounds      the requests were answered, with a refusal too
     0  records R, instances I, ongoing G, subscriptions S
+    0  migrated N records       the journal at --to has all that the old one has
     2  usage: ..                the words are no command; serve and trial, which it names, aren't built yet
     3  site fault               a disk call failed
     4  door fault               there was no connection, or the descriptor couldn't be read
     5  no journal               the file at PATH is unfinished
-    5  not a journal: byte N    its header differs first at byte N
+    5  not a journal: byte N    its header differs first at byte N, which is 8 where it is of another format
     6  no memory
     7                           the line couldn't be written
     8  bad record N             record N is broken, or isn't allowed after those before it
     9  journal full: E + M bytes
    10  descriptor refused: T    T is the first thing that is wrong with it
-   11  taken                    the file at PATH isn't an unfinished journal of manager N
+   11  taken                    the file at PATH, of migrate at --to, isn't an unfinished journal of the manager
 Behind the line of a status that isn't 0, a line on standard error that begins `vnfm: ` says why.
 ";
 
@@ -111,6 +116,20 @@ Counted are its records, the VNF instances that aren't deleted, the operations t
 FAILED_TEMP or ROLLING_BACK) and the subscriptions that aren't deleted, of both roles.
 ";
 
+/// What `migrate --help` prints.
+const MIGRATE: &str =
+    "vnfm migrate --journal PATH --to PATH    make a journal of the present format of one of format 1
+
+    vnfm migrate --journal old --to journal
+
+The first PATH is a journal of format 1, which the other commands refuse as not a journal: byte 8. It is read whole and
+judged, and stays as it is. At the second PATH a journal of the present format is made, of the same manager and with the
+same records. That file is made where nothing is; one that is empty or has one byte, begins with a small v, or was left
+unfinished for the same manager is overwritten, as by init. Any other file is taken, and stays as it is.
+
+Behind status 0 the old file may be kept or deleted. A migrate that was stopped half-way is simply run again.
+";
+
 /// What `--version` prints.
 const VERSION: &str = "vnfm 0.1.0\n";
 
@@ -125,6 +144,7 @@ impl Page {
             Page::Onboard => ONBOARD,
             Page::Once => ONCE,
             Page::Check => CHECK,
+            Page::Migrate => MIGRATE,
             Page::Version => VERSION,
         }
     }
@@ -177,6 +197,9 @@ fn command_page(command: &Text) -> Option<Page>
     }
     if command.as_str() == "check" {
         return Some(Page::Check);
+    }
+    if command.as_str() == "migrate" {
+        return Some(Page::Migrate);
     }
     None
 }

@@ -1,9 +1,10 @@
 //! Why a run ended as it did, for a person.
 ghost use Rattle.std.specs.Prelude.{◌≡◌, ◌++◌, IfOk, Some, codes, decimal, drop, option_map, slice_get};
 ghost use Rattle.std.specs.String.{string_bytes};
-ghost use Rattle.program_words.specs.Lines.{IsAboutJournal, IsAboutValue, IsAboutWord, IsLineOf, IsLineOn};
-ghost use Rattle.program_words.specs.Lines.{IsNoValueOf, IsWrongLine, lost_text, no_folder_text, path_in, plain_line};
-ghost use Rattle.program_words.specs.Lines.{descriptor_line, unanswered_line, unanswered_text, wanted_by};
+ghost use Rattle.program_words.specs.Lines.{IsAboutJournal, IsAboutPath, IsAboutSpare, IsAboutValue, IsAboutWord};
+ghost use Rattle.program_words.specs.Lines.{IsLineOf, IsLineOn, IsNoJournalLine, IsNoValueOf, IsRoomLine, IsTakenLine};
+ghost use Rattle.program_words.specs.Lines.{IsWrongLine, are_to_migrate, descriptor_line, lost_text, no_folder_text};
+ghost use Rattle.program_words.specs.Lines.{path_in, path_to, plain_line, unanswered_line, unanswered_text, wanted_by};
 ghost use Rattle.program_words.specs.Reasons.{delivery_reason, hearing_reason, lost_reason, reason_of};
 ghost use Rattle.program_words.specs.Wrong.{wrong_of};
 
@@ -19,6 +20,11 @@ const ADVICE: &str =
     "no byte order mark may stand in front, and YAML isn't read, of which JSON is made by \
     python3 -c 'import json, sys, yaml; json.dump(yaml.safe_load(sys.stdin), sys.stdout, default=str)'";
 
+/// What a file is where a command wants a journal, and how one of format 1 is carried over.
+const NO_JOURNAL: &str =
+    "it is not a journal that init has finished; one of format 1, whose header differs first at byte 8, is carried \
+    over by vnfm migrate --journal PATH --to NEWPATH";
+
 /// Why a run ended as it did, where there is something to say.
 #[derive(Clone, Copy)]
 pub enum Reason {
@@ -28,11 +34,13 @@ pub enum Reason {
     Words,
     /// The journal's file couldn't be had, or a call on it failed, for this cause.
     Lost(WhyLost),
+    /// The file to which the journal goes couldn't be had, or a call on it failed, for this cause.
+    LostSpare(WhyLost),
     /// The null device couldn't be opened, and so no file was.
     NoDevice,
     /// Standard input couldn't be read.
     Input,
-    /// No journal stands at the path.
+    /// No journal of the format that the command reads stands at the path.
     NoJournal,
     /// There was no memory.
     NoMemory,
@@ -40,11 +48,11 @@ pub enum Reason {
     Output,
     /// The journal has a bad record.
     Record,
-    /// The journal has no room.
+    /// The journal has no room, or that to which it goes has too little.
     Room,
     /// The descriptor was refused; where it ends being JSON, if it does.
     Descriptor(Option<JsonBreak>),
-    /// The file isn't one that `init` takes.
+    /// The file isn't one in which a journal is made.
     Taken,
     /// The answer couldn't be delivered.
     Undelivered,
@@ -59,22 +67,23 @@ pub enum Reason {
     },
 }
 
-/// What is to be said of a run with this status, by why the file was lost, whether the answer was, and what was heard
-/// and answered.
+/// What is to be said of a run with this status, by why the file was lost, and the one to which the journal goes,
+/// whether the answer was, and what was heard and answered.
 ///
 /// Source: own rule, docs/FORMATS.md, "The program".
 pub fn reason_of(
     status: u8,
     lost: Option<WhyLost>,
+    spare: Option<WhyLost>,
     undelivered: bool,
     account: Account,
 ) -> Option<Reason>
-    ensures { result ≡ reason_of status lost undelivered account }
+    ensures { result ≡ reason_of status lost spare undelivered account }
 {
     match status {
         0 => delivery_reason(undelivered, account),
         2 => Some(Reason::Words),
-        3 => Some(lost_reason(lost)),
+        3 => Some(lost_reason(lost, spare)),
         4 => Some(Reason::Input),
         5 => Some(Reason::NoJournal),
         6 => Some(Reason::NoMemory),
@@ -120,12 +129,13 @@ fn hearing_reason(answered: u64, last: Hearing) -> Option<Reason>
 }
 
 /// What is to be said where a disk call failed.
-fn lost_reason(lost: Option<WhyLost>) -> Reason
-    ensures { result ≡ lost_reason lost }
+fn lost_reason(lost: Option<WhyLost>, spare: Option<WhyLost>) -> Reason
+    ensures { result ≡ lost_reason lost spare }
 {
-    match lost {
-        Some(why) => Reason::Lost(why),
-        None => Reason::NoDevice,
+    match (lost, spare) {
+        (Some(why), _) => Reason::Lost(why),
+        (None, Some(why)) => Reason::LostSpare(why),
+        (None, None) => Reason::NoDevice,
     }
 }
 
@@ -144,16 +154,13 @@ impl Reason {
             ),
             Reason::Words => wrong_line(alloc, words),
             Reason::Lost(why) => about_journal(alloc, words, lost_text(why, path_in(words))),
+            Reason::LostSpare(why) => about_spare(alloc, words, lost_text(why, path_to(words))),
             Reason::NoDevice => plain(
                 alloc,
                 "/dev/null couldn't be opened, which holds the places of closed standard streams",
             ),
             Reason::Input => plain(alloc, "standard input couldn't be read"),
-            Reason::NoJournal => about_journal(
-                alloc,
-                words,
-                "it is not a journal that init has finished",
-            ),
+            Reason::NoJournal => no_journal_line(alloc, words),
             Reason::NoMemory => plain(alloc, "there was no memory"),
             Reason::Output => plain(alloc, "the last line couldn't be written"),
             Reason::Record => about_journal(
@@ -161,17 +168,9 @@ impl Reason {
                 words,
                 "it has a record that is broken or isn't allowed there",
             ),
-            Reason::Room => about_journal(
-                alloc,
-                words,
-                "it has no room for what was to be recorded",
-            ),
+            Reason::Room => room_line(alloc, words),
             Reason::Descriptor(at) => descriptor_line(alloc, at),
-            Reason::Taken => about_journal(
-                alloc,
-                words,
-                "it is a journal already, or no file of this program's; give another path, or move it away",
-            ),
+            Reason::Taken => taken_line(alloc, words),
             Reason::Undelivered => plain(
                 alloc,
                 "the answer couldn't be delivered; what it says is recorded",
@@ -181,6 +180,61 @@ impl Reason {
                 unanswered_line(alloc, answered, unanswered_text(last))
             }
         }
+    }
+}
+
+/// The line of a file that is no journal.
+fn no_journal_line(alloc: Global, words: &[Text]) -> Result<String, AllocError>
+    ensures { IfOk result (λ line. IsNoJournalLine (are_to_migrate words.now) words.now (string_bytes line)) }
+{
+    if are_to_migrate(words) {
+        about_journal(alloc, words, "no journal of format 1 stands there")
+    } else {
+        about_journal(alloc, words, NO_JOURNAL)
+    }
+}
+
+/// The line of a journal that has no room.
+fn room_line(alloc: Global, words: &[Text]) -> Result<String, AllocError>
+    ensures { IfOk result (λ line. IsRoomLine (are_to_migrate words.now) words.now (string_bytes line)) }
+{
+    if are_to_migrate(words) {
+        about_spare(
+            alloc,
+            words,
+            "a journal of the present format would be longer than one may be",
+        )
+    } else {
+        about_journal(alloc, words, "it has no room for what was to be recorded")
+    }
+}
+
+/// The line of a file that is taken.
+fn taken_line(alloc: Global, words: &[Text]) -> Result<String, AllocError>
+    ensures { IfOk result (λ line. IsTakenLine (are_to_migrate words.now) words.now (string_bytes line)) }
+{
+    if are_to_migrate(words) {
+        about_spare(
+            alloc,
+            words,
+            "it is not an unfinished journal of the same manager; give another path, or move it away",
+        )
+    } else {
+        about_journal(
+            alloc,
+            words,
+            "it is a journal already, or no file of this program's; give another path, or move it away",
+        )
+    }
+}
+
+/// Whether the words are those of `migrate`.
+fn are_to_migrate(words: &[Text]) -> bool
+    ensures { result ≡ are_to_migrate words.now }
+{
+    match words {
+        [] => false,
+        [name, ..] => name.as_str() == "migrate",
     }
 }
 
@@ -296,7 +350,22 @@ fn quoted(alloc: Global, word: &Text) -> Result<String, AllocError> {
 fn about_journal(alloc: Global, words: &[Text], text: &str) -> Result<String, AllocError>
     ensures { IfOk result (λ line. IsAboutJournal words.now text.now (string_bytes line)) }
 {
-    match path_in(words) {
+    about_path(alloc, path_in(words), text)
+}
+
+/// A line that says this of the path that the journal goes to.
+fn about_spare(alloc: Global, words: &[Text], text: &str) -> Result<String, AllocError>
+    ensures { IfOk result (λ line. IsAboutSpare words.now text.now (string_bytes line)) }
+{
+    about_path(alloc, path_to(words), text)
+}
+
+/// A line that says this of a path, where there is one.
+fn about_path(alloc: Global, path: Option<&Text>, text: &str) -> Result<String, AllocError>
+    ensures { IfOk result (λ line. IsAboutPath (option_map (λ path. path.now) path.entry) text.now
+        (string_bytes line)) }
+{
+    match path {
         Some(path) => line_on(alloc, path, ": ", text),
         None => plain(alloc, text),
     }
@@ -309,6 +378,16 @@ fn path_in(words: &[Text]) -> Option<&Text>
     match words {
         [] => None,
         [_, options @ ..] => value_of(options, "--journal"),
+    }
+}
+
+/// The path that the journal goes to, where the words name one.
+fn path_to(words: &[Text]) -> Option<&Text>
+    ensures { option_map (λ path. path.now) result ≡ path_to words.entry.now }
+{
+    match words {
+        [] => None,
+        [_, options @ ..] => value_of(options, "--to"),
     }
 }
 
@@ -345,6 +424,7 @@ fn wrong_line(alloc: Global, words: &[Text]) -> Result<String, AllocError>
         Wrong::Value(place) => value_line(alloc, words, place),
         Wrong::NoJournal => plain(alloc, "--journal PATH is missing; vnfm --help says more"),
         Wrong::NoManager => plain(alloc, "--manager N is missing; vnfm --help says more"),
+        Wrong::NoTo => plain(alloc, "--to PATH is missing; vnfm --help says more"),
         Wrong::Nothing => plain(alloc, "the words are no command; vnfm --help says more"),
     }
 }

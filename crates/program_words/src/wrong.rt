@@ -1,7 +1,7 @@
 //! Which word isn't understood.
 ghost use Rattle.std.specs.Prelude.{◌≡◌, ◌≤◌, drop, length, take};
-ghost use Rattle.program_words.specs.Wrong.{is_among, is_new, is_unbuilt, misplaced, needs_manager, wrong_at_end};
-ghost use Rattle.program_words.specs.Wrong.{wrong_behind, wrong_of};
+ghost use Rattle.program_words.specs.Wrong.{is_among, is_new, is_unbuilt, misplaced, needs_manager, needs_to};
+ghost use Rattle.program_words.specs.Wrong.{wrong_at_end, wrong_behind, wrong_of};
 
 use command_line::{Command, command_named, has_option, takes};
 use vnfm_base::Text;
@@ -25,6 +25,8 @@ pub enum Wrong {
     NoJournal,
     /// `--manager` and a number are missing.
     NoManager,
+    /// `--to` and a path are missing.
+    NoTo,
     /// Nothing: of words that are no command there is always something else.
     Nothing,
 }
@@ -95,6 +97,9 @@ fn wrong_at_end(command: Command, words: &[Text]) -> Wrong
     if needs_manager(command) && !is_among(words, "--manager") {
         return Wrong::NoManager;
     }
+    if needs_to(command) && !is_among(words, "--to") {
+        return Wrong::NoTo;
+    }
     Wrong::Nothing
 }
 
@@ -104,7 +109,17 @@ fn needs_manager(command: Command) -> bool
 {
     match command {
         Command::Init => true,
-        Command::Onboard | Command::Once | Command::Check => false,
+        Command::Onboard | Command::Once | Command::Check | Command::Migrate => false,
+    }
+}
+
+/// Whether the command has to have a path that the journal goes to.
+fn needs_to(command: Command) -> bool
+    ensures { result ≡ needs_to command }
+{
+    match command {
+        Command::Migrate => true,
+        Command::Init | Command::Onboard | Command::Once | Command::Check => false,
     }
 }
 

@@ -46,6 +46,7 @@ fn start_with<J: Jobs<File> + Drop, Q: Orchestrator + Drop, C: Courier + Drop>(
         device: NullFiles::of(rt),
         files: StdFiles::of(rt),
         site: RealSite::made(jobs),
+        spare: RealSite::made(NoJobs::made()),
         orchestrator,
         courier,
         clock: RealClock::made(StdTime::of(rt)),
@@ -135,7 +136,9 @@ fn main(rt: HostRuntime) -> ExitCode {
     let status = match settings_in(rt.alloc(), env::args(&rt)) {
         Ok(Some(settings)) => match settings.command {
             Command::Once => start_once(&rt, &settings),
-            Command::Init | Command::Onboard | Command::Check => start_alone(&rt, true),
+            Command::Init | Command::Onboard | Command::Check | Command::Migrate => {
+                start_alone(&rt, true)
+            }
         },
         Ok(None) => start_alone(&rt, true),
         Err(AllocError) => start_alone(&rt, false),

@@ -1,13 +1,13 @@
 -- What `check` leaves, and what its line tells.
 use Rattle.std.proofs.Common.{◌≡◌, ◌∙◌, ◌<◌, ◌++◌, ⊎_elim, inl, inr, ℕ, List, Bool, ap, refl, sym, subst, arith, if◌then◌else◌}
-use Rattle.command_line.specs.declared.options.Command.TheVariants.{Check, Init, Onboard, Once}
+use Rattle.command_line.specs.declared.options.Command.TheVariants.{Check, Init, Migrate, Onboard, Once}
 use Rattle.executor.specs.History.{HasHistory}
 use Rattle.executor.specs.Laws.{HasOneHistory}
 use Rattle.journal_core.specs.Load.{SyncsAndReads}
 use Rattle.lcm_events.specs.declared.events.Event.{Event}
 use Rattle.site_traits.specs.Advancing.{advances-refl}
 use Rattle.site_traits.specs.Site.{KeepsJobs, Pair, SiteState}
-use Rattle.vnfm_commands.specs.Course.{Course, misused, starved, making, unopened, opened, serving, onboarding, counting, IsOfWords}
+use Rattle.vnfm_commands.specs.Course.{Course, misused, starved, making, migrating, unopened, opened, serving, onboarding, counting, IsOfWords}
 use Rattle.vnfm_commands.specs.Course.{ending_of, unopened_failure}
 use Rattle.vnfm_commands.specs.Ending.{Ends, Output, totals_line}
 use Rattle.vnfm_commands.specs.Runs.{AtCount, AtFile, AtJobs, IsLegalCourse, IsUntouched}
@@ -23,7 +23,7 @@ left_before : (a : SiteState) (p : Pair) → a.since a.moment p → MightBeLeft 
 left_before a p was = record { before = p; was = was; step = record { image = refl; jobs = advances-refl p.jobs } }
 
 -- a site that wasn't called was left alone
-untouched_alone : (a b : SiteState) → IsUntouched a b → KeepsJobs a b → IsLeftAlone a b
+pub untouched_alone : (a b : SiteState) → IsUntouched a b → KeepsJobs a b → IsLeftAlone a b
 untouched_alone a b same jobs =
     let moment = same.moment in
     record {
@@ -37,7 +37,7 @@ untouched_alone a b same jobs =
     }
 
 -- and so was one that was synced and read
-read_alone : (a b : SiteState) → SyncsAndReads a b → IsLeftAlone a b
+pub read_alone : (a b : SiteState) → SyncsAndReads a b → IsLeftAlone a b
 read_alone a b reads =
     let passes = reads.on_file.passes in
     let each : (p : Pair) → b.since a.moment p → MightBeLeft a p = λ p left.
@@ -62,6 +62,7 @@ left_alone misused words a b are of at jobs counted = commanded _ words are.sett
 left_alone starved words a b are of at jobs counted = untouched_alone a b at jobs
 left_alone (making number result) words a b are of at jobs counted = let it =
     of_command Check words (making number result) are of in never_served _ it.0 Check Init it.1 it.2.0 (λ wrong. cc)
+left_alone (migrating result) words a b are of at jobs counted = read_alone a b at
 left_alone (unopened why) words a b are of at jobs counted = read_alone a b at.reads
 left_alone (opened start (serving service)) words a b are of at jobs counted = let it =
     of_command Check words (opened start (serving service)) are of in never_served _ it.0 Check Once it.1 it.2.command (λ wrong. cc)
@@ -80,6 +81,8 @@ told_totals once lines told starved words status m H a b c d are of at legal end
     absurd (never_done ends.put NoMemory (sym ends.status_is ∙ done))
 told_totals once lines told (making number result) words status m H a b c d are of at legal ends done small has = let it =
     of_command Check words (making number result) are of in never_served _ it.0 Check Init it.1 it.2.0 (λ wrong. cc)
+told_totals once lines told (migrating result) words status m H a b c d are of at legal ends done small has = let it =
+    of_command Check words (migrating result) are of in never_served _ it.0 Check Migrate it.1 it.2 (λ wrong. cc)
 told_totals once lines told (unopened why) words status m H a b c d are of at legal ends done small has =
     absurd (never_done ends.put (unopened_failure why) (sym ends.status_is ∙ done))
 told_totals once lines told (opened start (serving service)) words status m H a b c d are of at legal ends done small has = let it =

@@ -1,5 +1,5 @@
 -- Which calls of the door failed in a run, by its course.
-use Rattle.std.proofs.Common.{◌≡◌, ◌⊎◌, ℕ, Bool, true, false, List, [], ◌∷◌, Option, Some, None, Ok, Err, ap, subst, refl, inl, inr, ⊎_elim}
+use Rattle.std.proofs.Common.{Result, ◌≡◌, ◌⊎◌, ℕ, Bool, true, false, List, [], ◌∷◌, Option, Some, None, Ok, Err, ap, subst, refl, inl, inr, ⊎_elim}
 use Rattle.std.proofs.Common.{◌∙◌}
 use Rattle.executor.specs.declared.manager.OpenFault.{OpenFault}
 use Rattle.executor.specs.declared.manager.OpenFault.TheVariants as opening
@@ -21,7 +21,9 @@ use Rattle.site_traits.specs.Counts.{one_more}
 use Rattle.site_traits.specs.Door.{DoorCounts, call_failed, closed, next_failed, opened as has_come}
 use Rattle.command_line.specs.declared.options.Command.TheVariants.{Onboard, Once}
 use Rattle.vnfm_cli.specs.Causes.{FailsAtDoor}
-use Rattle.vnfm_commands.specs.Course.{Course, misused, starved, making, unopened, opened, Opening, serving, onboarding, counting, Visit}
+use Rattle.journal_migration.specs.declared.migration.MigrateFault.{MigrateFault}
+use Rattle.journal_migration.specs.declared.migration.MigrateFault.TheVariants as moving
+use Rattle.vnfm_commands.specs.Course.{Course, misused, starved, making, migrating, migrating_ending, unopened, opened, Opening, serving, onboarding, counting, Visit}
 use Rattle.vnfm_commands.specs.Course.{unasked}
 use Rattle.vnfm_commands.specs.Course.{served, Turning, Round, Close, finished, unreached, stopped, halted, undelivered, full}
 use Rattle.vnfm_commands.specs.Course.{starving, broken, bad, IsOfWords, close_ending, ending_of, once_made, onboarding_ending}
@@ -88,6 +90,7 @@ pub course_counted : (t : Tells) (course : Course) (a b : Beside) → CourseDoes
 course_counted t misused a b does = ap (λ (p : Beside). p.mouth.wire.intake.counts) does
 course_counted t starved a b does = ap (λ (p : Beside). p.mouth.wire.intake.counts) does
 course_counted t (making number result) a b does = ap (λ (p : Peers). p.mouth.wire.intake.counts) does.peers
+course_counted t (migrating result) a b does = ap (λ (p : Peers). p.mouth.wire.intake.counts) does.peers
 course_counted t (unopened why) a b does = ap (λ (p : Peers). p.mouth.wire.intake.counts) does.peers
 course_counted t (opened start (serving service)) a b does =
     let serves = does.2 in
@@ -207,6 +210,18 @@ never_opening (opening.BadRecord n) is = cc is
 never_opening opening.Disk is = cc is
 never_opening opening.Memory is = cc is
 
+-- no journal that wasn't migrated is one either
+never_moving : (result : Result ℕ MigrateFault) → migrating_ending result ≡ Err DoorFailure → ⊥
+never_moving (Ok records) is = cc is
+never_moving (Err (moving.Open opening.Unmade)) is = cc is
+never_moving (Err (moving.Open (opening.Foreign place))) is = cc is
+never_moving (Err (moving.Open (opening.BadRecord n))) is = cc is
+never_moving (Err (moving.Open opening.Disk)) is = cc is
+never_moving (Err (moving.Open opening.Memory)) is = cc is
+never_moving (Err moving.Taken) is = cc is
+never_moving (Err (moving.Full end more)) is = cc is
+never_moving (Err moving.Disk) is = cc is
+
 -- a run ends with a fault of the door exactly where a call of it failed that isn't passed over
 pub course_fails : (t : Tells) (words : List (List ℕ)) (course : Course) (a b : Beside) → IsOfWords words course → CourseDoes t course a b
     → FailsAtDoor words (ending_of course ≡ Err DoorFailure) a.mouth.wire.intake.counts b.mouth.wire.intake.counts
@@ -218,6 +233,8 @@ course_fails t words (making number (Err creating.Taken)) a b of does =
     quiet words _ _ _ (λ is. cc is) (same_counts _ _ (course_counted t (making number (Err creating.Taken)) a b does))
 course_fails t words (making number (Err creating.Disk)) a b of does =
     quiet words _ _ _ (λ is. cc is) (same_counts _ _ (course_counted t (making number (Err creating.Disk)) a b does))
+course_fails t words (migrating result) a b of does = quiet words _ _ _ (never_moving result)
+    (same_counts _ _ (course_counted t (migrating result) a b does))
 course_fails t words (unopened why) a b of does = quiet words _ _ _ (never_opening why)
     (same_counts _ _ (course_counted t (unopened why) a b does))
 course_fails t words (opened start (serving service)) a b of does =

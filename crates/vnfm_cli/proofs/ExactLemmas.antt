@@ -11,6 +11,8 @@ use Rattle.executor.specs.declared.manager.OpenFault.TheVariants as opening
 use Rattle.journal_records.specs.File.{HasRecords}
 use Rattle.journal_core.specs.Header.{IsForeign, IsUnmade}
 use Rattle.journal_core.specs.Exclusion.{IsHeadedOrNot, IsWholeOrForeign, IsWholeOrUnmade}
+use Rattle.journal_migration.specs.declared.migration.MigrateFault.{MigrateFault}
+use Rattle.journal_migration.specs.declared.migration.MigrateFault.TheVariants as moving
 use Rattle.lcm_sessions.specs.Onboarding.{unready, unheard, cut_off, heard, done, starving as no_memory, breaking, verdict_answer}
 use Rattle.lcm_sessions.specs.Verdict.{Verdict, refused, full as no_room, accepted, verdict}
 use Rattle.lcm_events.specs.declared.events.Event.{Event}
@@ -27,7 +29,7 @@ use Rattle.site_traits.specs.Door.{DoorCounts}
 use Rattle.site_traits.specs.Site.{SiteState}
 use Rattle.vnfm_cli.specs.Causes.{FailsAtDoor}
 use Rattle.vnfm_cli.proofs.EndingLemmas.{Where}
-use Rattle.vnfm_commands.specs.Course.{Course, misused, starved, making, unopened, opened, Close, finished, unreached, stopped, halted}
+use Rattle.vnfm_commands.specs.Course.{Course, misused, starved, making, migrating, unopened, opened, Close, finished, unreached, stopped, halted}
 use Rattle.vnfm_commands.specs.Course.{undelivered, full, starving, broken, bad as amiss, serving, onboarding, counting, close_ending}
 use Rattle.vnfm_commands.specs.Course.{ending_of}
 use Rattle.vnfm_commands.specs.Course.{halt_of}
@@ -45,7 +47,7 @@ use Rattle.journal_core.specs.declared.create.CreateFault.TheVariants as creatin
 use Rattle.command_line.specs.Words.{settings_of}
 use Rattle.vnfm_commands.specs.Words.{AreInit, AreLoading, AreWordsOf, loads}
 use Rattle.command_line.specs.declared.options.Command.{Command}
-use Rattle.command_line.specs.declared.options.Command.TheVariants.{Check, Init, Onboard, Once}
+use Rattle.command_line.specs.declared.options.Command.TheVariants.{Check, Init, Migrate, Onboard, Once}
 use Rattle.command_line.specs.declared.options.Settings.{Settings}
 use Rattle.vnfm_commands.specs.declared.ending.Failure.TheVariants.{SiteFault, DoorFault, BadRecord}
 use Rattle.vnfm_commands.proofs.DiskLemmas.{one_fault}
@@ -74,6 +76,13 @@ not_making P words number result are of =
     let init = (of_settings words (making number result) are.settings are.set of).0 in
     absurd (false≢true (ap loads (sym init) ∙ are.loading))
 
+-- nor migrate one
+not_migrating : (P : Type 0) (words : List (List ℕ)) (result : Result ℕ MigrateFault) → AreLoading words
+    → IsOfSettings words (migrating result) → P
+not_migrating P words result are of =
+    let migrate = of_settings words (migrating result) are.settings are.set of in
+    absurd (false≢true (ap loads (sym migrate) ∙ are.loading))
+
 -- a descriptor that was judged ends with 0, 9 or 10
 verdict_status : (v : Verdict) → MayEndWith Onboard (status_of (onboarding_ending (verdict_answer v)))
 verdict_status (refused why) = inr (inr (inr refl))
@@ -85,15 +94,15 @@ init_words : (words : List (List ℕ)) (number : ℕ) (result : Result (Unit {0}
     → AreInit number words
 init_words words number result of = record { settings = of.settings; set = of.set; is = of.is.0; number = sym of.is.1 }
 
--- what a status tells of the words and of the file at the start: 5 of one that is no journal, 8 of a bad record, 9 and 10 of the command,
--- 11 of a file that isn't unfinished for the manager of `init`
+-- what a status tells of the words and, unless they are those of `migrate`, of the file at the start: 5 of one that is no journal, 8 of a
+-- bad record, 9 and 10 of the command, 11 of a file that isn't unfinished for the manager of `init`
 abbrev pub IsTold : Type 0 → List (List ℕ) → SiteState → ℕ → Type 0
 IsTold tells words a n =
-    Where (n == 5) (tells → IsNoJournal a.image)
-    × Where (n == 8) (tells → (k : ℕ) × IsBadRecord k a.image)
-    × Where (n == 9) (AreWordsOf Onboard words ⊎ AreWordsOf Once words)
+    Where (n == 5) (tells → ¬ (AreWordsOf Migrate words) → IsNoJournal a.image)
+    × Where (n == 8) (tells → ¬ (AreWordsOf Migrate words) → (k : ℕ) × IsBadRecord k a.image)
+    × Where (n == 9) (AreWordsOf Onboard words ⊎ (AreWordsOf Once words ⊎ AreWordsOf Migrate words))
     × Where (n == 10) (AreWordsOf Onboard words)
-    × Where (n == 11) (tells → (m : ℕ) × AreInit m words × (IsUnfinished m a.image → ⊥))
+    × Where (n == 11) (tells → ¬ (AreWordsOf Migrate words) → (m : ℕ) × AreInit m words × (IsUnfinished m a.image → ⊥))
 
 -- where the site tells no record that is read back is bad
 module _ (t : Tells) (m saved : ℕ) where
@@ -155,6 +164,7 @@ pub ends_good : (t : Tells) (course : Course) (a b : Beside) → CourseDoes t co
 ends_good t misused a b does = tt
 ends_good t starved a b does = tt
 ends_good t (making number result) a b does = tt
+ends_good t (migrating result) a b does = tt
 ends_good t (unopened why) a b does = tt
 ends_good t (opened start (onboarding o)) a b does = tt
 ends_good t (opened start counting) a b does = tt
@@ -170,14 +180,18 @@ module _ (tells : Type 0) (words : List (List ℕ)) (a b : SiteState) where
   closed_so once rounds finished never = (tt, tt, tt, tt, tt)
   closed_so once rounds unreached never = (tt, tt, tt, tt, tt)
   closed_so once rounds (stopped came talk) never = (tt, tt, tt, tt, tt)
-  closed_so once rounds (halted visit turn end (full e more)) never = (tt, tt, inr once, tt, tt)
+  closed_so once rounds (halted visit turn end (full e more)) never = (tt, tt, inr (inl once), tt, tt)
   closed_so once rounds (halted visit turn end starving) never = (tt, tt, tt, tt, tt)
   closed_so once rounds (halted visit turn end broken) never = (tt, tt, tt, tt, tt)
-  closed_so once rounds (halted visit turn end (amiss n)) never = (tt, (λ told. absurd (never n told refl)), tt, tt, tt)
-  closed_so once rounds (undelivered visit turn ps end (full e more)) never = (tt, tt, inr once, tt, tt)
+  closed_so once rounds (halted visit turn end (amiss n)) never = (tt, (λ told other. absurd (never n told refl)), tt, tt, tt)
+  closed_so once rounds (undelivered visit turn ps end (full e more)) never = (tt, tt, inr (inl once), tt, tt)
   closed_so once rounds (undelivered visit turn ps end starving) never = (tt, tt, tt, tt, tt)
   closed_so once rounds (undelivered visit turn ps end broken) never = (tt, tt, tt, tt, tt)
-  closed_so once rounds (undelivered visit turn ps end (amiss n)) never = (tt, (λ told. absurd (never n told refl)), tt, tt, tt)
+  closed_so once rounds (undelivered visit turn ps end (amiss n)) never = (tt, (λ told other. absurd (never n told refl)), tt, tt, tt)
+
+  -- the words of a course that migrates a journal
+  moving_words : {result : Result ℕ MigrateFault} → IsOfSettings words (migrating result) → AreWordsOf Migrate words
+  moving_words of = record { settings = of.settings; set = of.set; is = of.is }
 
   judged_so : AreWordsOf Onboard words → (v : Verdict) → IsTold tells words a (status_of (onboarding_ending (verdict_answer v)))
   judged_so on (refused why) = (tt, tt, tt, on, tt)
@@ -194,12 +208,22 @@ module _ (tells : Type 0) (words : List (List ℕ)) (a b : SiteState) where
     tt,
     tt,
     tt,
-    λ told. (number, init_words words number (Err creating.Taken) of, (at told).taken refl),
+    λ told other. (number, init_words words number (Err creating.Taken) of, (at told).taken refl),
   )
   told_so (making number (Err creating.Disk)) of at good = (tt, tt, tt, tt, tt)
-  told_so (unopened opening.Unmade) of at good = ((λ told. inl (at told).because), tt, tt, tt, tt)
-  told_so (unopened (opening.Foreign place)) of at good = ((λ told. inr (place, (at told).because)), tt, tt, tt, tt)
-  told_so (unopened (opening.BadRecord n)) of at good = (tt, (λ told. (n, (at told).because)), tt, tt, tt)
+  told_so (migrating (Ok records)) of at good = (tt, tt, tt, tt, tt)
+  told_so (migrating (Err (moving.Open opening.Unmade))) of at good = ((λ told other. absurd (other (moving_words of))), tt, tt, tt, tt)
+  told_so (migrating (Err (moving.Open (opening.Foreign place)))) of at good =
+      ((λ told other. absurd (other (moving_words of))), tt, tt, tt, tt)
+  told_so (migrating (Err (moving.Open (opening.BadRecord n)))) of at good = (tt, (λ told other. absurd (other (moving_words of))), tt, tt, tt)
+  told_so (migrating (Err (moving.Open opening.Disk))) of at good = (tt, tt, tt, tt, tt)
+  told_so (migrating (Err (moving.Open opening.Memory))) of at good = (tt, tt, tt, tt, tt)
+  told_so (migrating (Err moving.Taken)) of at good = (tt, tt, tt, tt, λ told other. absurd (other (moving_words of)))
+  told_so (migrating (Err (moving.Full end more))) of at good = (tt, tt, inr (inr (moving_words of)), tt, tt)
+  told_so (migrating (Err moving.Disk)) of at good = (tt, tt, tt, tt, tt)
+  told_so (unopened opening.Unmade) of at good = ((λ told other. inl (at told).because), tt, tt, tt, tt)
+  told_so (unopened (opening.Foreign place)) of at good = ((λ told other. inr (place, (at told).because)), tt, tt, tt, tt)
+  told_so (unopened (opening.BadRecord n)) of at good = (tt, (λ told other. (n, (at told).because)), tt, tt, tt)
   told_so (unopened opening.Disk) of at good = (tt, tt, tt, tt, tt)
   told_so (unopened opening.Memory) of at good = (tt, tt, tt, tt, tt)
   told_so (opened start (serving service)) of at good = closed_so (record { settings = of.settings; set = of.set; is = of.is.command }) _
@@ -242,6 +266,8 @@ taken_ending (making number (Ok u)) words a b m are of at not =
     absurd ((at.kept (λ unfinished. not (subst (λ k. IsUnfinished k a.image) same unfinished))).1 refl)
 taken_ending (making number (Err creating.Taken)) words a b m are of at not = inl refl
 taken_ending (making number (Err creating.Disk)) words a b m are of at not = inr (inl refl)
+taken_ending (migrating result) words a b m are of at not = let it = of_init m words (migrating result) are of in
+    never_served _ it.0 Init Migrate it.1 it.3 (λ wrong. cc)
 taken_ending (unopened why) words a b m are of at not = let it = of_init m words (unopened why) are of in
     never_unopened _ it.0 why it.1 it.3
 taken_ending (opened start (serving service)) words a b m are of at not = let it =
@@ -262,6 +288,8 @@ made_ending (making number (Ok u)) words a b m are of at is =
     subst (λ k. IsMade k b) same at.made
 made_ending (making number (Err creating.Taken)) words a b m are of at is = absurd (omega (arith, is))
 made_ending (making number (Err creating.Disk)) words a b m are of at is = absurd (omega (arith, is))
+made_ending (migrating result) words a b m are of at is = let it = of_init m words (migrating result) are of in
+    never_served _ it.0 Init Migrate it.1 it.3 (λ wrong. cc)
 made_ending (unopened why) words a b m are of at is = let it = of_init m words (unopened why) are of in never_unopened _ it.0 why it.1 it.3
 made_ending (opened start (serving service)) words a b m are of at is = let it = of_init m words (opened start (serving service)) are of in
     never_served _ it.0 Init Once it.1 it.3.command (λ wrong. cc)
@@ -278,6 +306,8 @@ complete_init starved words a b are of disk = inr (inl refl)
 complete_init (making number (Ok u)) words a b are of disk = inl refl
 complete_init (making number (Err creating.Taken)) words a b are of disk = inr (inr refl)
 complete_init (making number (Err creating.Disk)) words a b are of disk = absurd (disk refl)
+complete_init (migrating result) words a b are of disk = let it = of_command Init words (migrating result) are of in
+    never_served _ it.0 Init Migrate it.1 it.2 (λ wrong. cc)
 complete_init (unopened why) words a b are of disk = let it = of_command Init words (unopened why) are of in
     never_unopened _ it.0 why it.1 it.2
 complete_init (opened start (serving service)) words a b are of disk = let it =
@@ -308,6 +338,10 @@ same_command : (words : List (List ℕ)) (c d : Command) → AreWordsOf c words 
 same_command words c d are other = sym are.is ∙ ap (λ (s : Settings). s.command)
     (set_once words are.settings other.settings are.set other.set) ∙ other.is
 
+-- words of another command aren't those of `migrate`
+pub not_migrate : (command : Command) (words : List (List ℕ)) → (command ≡ Migrate → ⊥) → AreWordsOf command words → AreWordsOf Migrate words → ⊥
+not_migrate command words other are also = other (same_command words command Migrate are also)
+
 -- why the door failed for the command of these words
 pub door_cause : (command : Command) (words : List (List ℕ)) (failed : Type 0) (a b : DoorCounts) → AreWordsOf command words
     → FailsAtDoor words failed a b → failed → IsDoorCause command a b
@@ -324,6 +358,10 @@ door_cause Once words failed a b are fails is = ⊎_elim
 door_cause Check words failed a b are fails is = ⊎_elim
     (λ (on : AreWordsOf Onboard words). let same = same_command words Check Onboard are on in cc)
     (λ (once : AreWordsOf Once words). let same = same_command words Check Once are once in cc)
+    (fails.asked is)
+door_cause Migrate words failed a b are fails is = ⊎_elim
+    (λ (on : AreWordsOf Onboard words). let same = same_command words Migrate Onboard are on in cc)
+    (λ (once : AreWordsOf Once words). let same = same_command words Migrate Once are once in cc)
     (fails.asked is)
 
 -- what is known of files
@@ -349,6 +387,7 @@ module _ (whole_unmade : IsWholeOrUnmade) (whole_foreign : IsWholeOrForeign) (he
   no_journal_ending misused words a b are of at none = commanded _ words are.settings are.set of
   no_journal_ending starved words a b are of at none = inr (inr refl)
   no_journal_ending (making number result) words a b are of at none = not_making _ words number result are of
+  no_journal_ending (migrating result) words a b are of at none = not_migrating _ words result are of
   no_journal_ending (unopened opening.Unmade) words a b are of at none = inl refl
   no_journal_ending (unopened (opening.Foreign place)) words a b are of at none = inl refl
   no_journal_ending (unopened (opening.BadRecord n)) words a b are of at none = absurd (bad_journal n a.image at.because none)
@@ -363,6 +402,7 @@ module _ (whole_unmade : IsWholeOrUnmade) (whole_foreign : IsWholeOrForeign) (he
   bad_record_ending misused words a b n are of legal at bad = commanded _ words are.settings are.set of
   bad_record_ending starved words a b n are of legal at bad = inr (inr refl)
   bad_record_ending (making number result) words a b n are of legal at bad = not_making _ words number result are of
+  bad_record_ending (migrating result) words a b n are of legal at bad = not_migrating _ words result are of
   bad_record_ending (unopened opening.Unmade) words a b n are of legal at bad = absurd (bad_journal n a.image bad (inl at.because))
   bad_record_ending (unopened (opening.Foreign place)) words a b n are of legal at bad =
       absurd (bad_journal n a.image bad (inr (place, at.because)))
@@ -392,6 +432,8 @@ module _ (whole_unmade : IsWholeOrUnmade) (whole_foreign : IsWholeOrForeign) (he
   complete_onboard starved words a b m H are sound of at disk door = inr (inl refl)
   complete_onboard (making number result) words a b m H are sound of at disk door = let it =
       of_command Onboard words (making number result) are of in never_served _ it.0 Onboard Init it.1 it.2.0 (λ wrong. cc)
+  complete_onboard (migrating result) words a b m H are sound of at disk door = let it =
+      of_command Onboard words (migrating result) are of in never_served _ it.0 Onboard Migrate it.1 it.2 (λ wrong. cc)
   complete_onboard (unopened why) words a b m H are sound of at disk door = inr (inl (sound_unopened why m H a b sound at disk))
   complete_onboard (opened start (serving service)) words a b m H are sound of at disk door = let it =
       of_command Onboard words (opened start (serving service)) are of in never_served _ it.0 Onboard Once it.1 it.2.command (λ wrong. cc)
@@ -416,6 +458,8 @@ module _ (whole_unmade : IsWholeOrUnmade) (whole_foreign : IsWholeOrForeign) (he
   complete_once tells told starved words a b m H are sound of at disk door good = inr (inl refl)
   complete_once tells told (making number result) words a b m H are sound of at disk door good = let it =
       of_command Once words (making number result) are of in never_served _ it.0 Once Init it.1 it.2.0 (λ wrong. cc)
+  complete_once tells told (migrating result) words a b m H are sound of at disk door good = let it =
+      of_command Once words (migrating result) are of in never_served _ it.0 Once Migrate it.1 it.2 (λ wrong. cc)
   complete_once tells told (unopened why) words a b m H are sound of at disk door good =
       inr (inl (sound_unopened why m H a b sound at disk))
   complete_once tells told (opened start (serving service)) words a b m H are sound of at disk door good =
@@ -434,6 +478,8 @@ module _ (whole_unmade : IsWholeOrUnmade) (whole_foreign : IsWholeOrForeign) (he
   complete_check starved words a b m H are sound of at disk = inr refl
   complete_check (making number result) words a b m H are sound of at disk = let it =
       of_command Check words (making number result) are of in never_served _ it.0 Check Init it.1 it.2.0 (λ wrong. cc)
+  complete_check (migrating result) words a b m H are sound of at disk = let it =
+      of_command Check words (migrating result) are of in never_served _ it.0 Check Migrate it.1 it.2 (λ wrong. cc)
   complete_check (unopened why) words a b m H are sound of at disk = inr (sound_unopened why m H a b sound at disk)
   complete_check (opened start (serving service)) words a b m H are sound of at disk = let it =
       of_command Check words (opened start (serving service)) are of in never_served _ it.0 Check Once it.1 it.2.command (λ wrong. cc)
@@ -441,16 +487,17 @@ module _ (whole_unmade : IsWholeOrUnmade) (whole_foreign : IsWholeOrForeign) (he
       of_command Check words (opened start (onboarding o)) are of in never_served _ it.0 Check Onboard it.1 it.2 (λ wrong. cc)
   complete_check (opened start counting) words a b m H are sound of at disk = inl refl
 
-  -- from a sound start a command does its work or is refused, unless a call failed or there was no memory
+  -- from a sound start a command but `migrate` does its work or is refused, unless a call failed or there was no memory
   pub complete_ending : (tells : Type 0) → tells → (command : Command) (course : Course) (words : List (List ℕ)) (a b : SiteState)
-      → AreWordsOf command words
+      → (command ≡ Migrate → ⊥) → AreWordsOf command words
       → IsStartOf command a → IsOfWords words course
       → AtFile course a b → (ending_of course ≡ Err SiteFault → ⊥) → (ending_of course ≡ Err DoorFault → ⊥) → EndsGood tells course
       → MayEndWith command (status_of (ending_of course))
-  complete_ending tells told Init course words a b are start of at disk door good = complete_init course words a b are of disk
-  complete_ending tells told Onboard course words a b are start of at disk door good =
+  complete_ending tells told Init course words a b other are start of at disk door good = complete_init course words a b are of disk
+  complete_ending tells told Onboard course words a b other are start of at disk door good =
       complete_onboard course words a b start.0 start.1 are start.2 of at disk door
-  complete_ending tells told Once course words a b are start of at disk door good =
+  complete_ending tells told Once course words a b other are start of at disk door good =
       complete_once tells told course words a b start.0 start.1 are start.2 of at disk door good
-  complete_ending tells told Check course words a b are start of at disk door good =
+  complete_ending tells told Check course words a b other are start of at disk door good =
       complete_check course words a b start.0 start.1 are start.2 of at disk
+  complete_ending tells told Migrate course words a b other are start of at disk door good = absurd (other refl)

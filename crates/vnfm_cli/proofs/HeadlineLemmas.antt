@@ -1,6 +1,6 @@
 -- What a stop leaves of a run, from what the run does to the site.
 use Rattle.std.proofs.Common.{◌≡◌, ◌∙◌, ◌<◌, ◌⊎◌, ℕ, List, [], ◌∷◌, Result, inl, inr, subst, sym, refl, arith, ⊎_elim}
-use Rattle.command_line.specs.declared.options.Command.TheVariants.{Check, Init, Onboard, Once}
+use Rattle.command_line.specs.declared.options.Command.TheVariants.{Check, Init, Migrate, Onboard, Once}
 use Rattle.executor.specs.Chain.{AreTold, StaysSince}
 use Rattle.executor.specs.History.{HasHistory, spellings}
 use Rattle.executor.specs.Laws.{HasOneHistory}
@@ -18,7 +18,8 @@ use Rattle.lcm_model.specs.Work.{window}
 use Rattle.site_traits.specs.Jobs.{Advances, Job}
 use Rattle.site_traits.specs.Moments.{goes_on, joined, started, weakened}
 use Rattle.site_traits.specs.Site.{FileStep, HasItsJobs, KeepsJobs, LeavesOnly, Pair, Same, SiteState}
-use Rattle.vnfm_commands.specs.Course.{Course, misused, starved, making, unopened, opened, serving, onboarding, counting, activity_work}
+use Rattle.vnfm_commands.specs.Course.{Course, misused, starved, making, migrating, unopened, opened, serving, onboarding, counting}
+use Rattle.vnfm_commands.specs.Course.{activity_work}
 use Rattle.vnfm_commands.specs.Course.{told_by, told_of, IsOfWords}
 use Rattle.vnfm_cli.specs.Headline.{AreStanding, IsFresh, IsFreshPair, IsLeftWith, IsSoundBeginning, IsSoundPair, SoundJobsMakeSoundPairs}
 use Rattle.vnfm_cli.specs.Headline.{StandsSince}
@@ -27,7 +28,7 @@ use Rattle.vnfm_commands.specs.Words.{AreInit}
 use Rattle.vnfm_cli.proofs.ExactLemmas.{commanded, never_served, never_unopened, of_init}
 
 -- a site that wasn't called leaves what it left
-untouched_leaves : (P : Pair → Type 0) (a b : SiteState) → IsUntouched a b → ((p : Pair) → a.since a.moment p → P p) → LeavesOnly P a b
+pub untouched_leaves : (P : Pair → Type 0) (a b : SiteState) → IsUntouched a b → ((p : Pair) → a.since a.moment p → P p) → LeavesOnly P a b
 untouched_leaves P a b same here =
     let moment = same.moment in
     record {
@@ -102,6 +103,7 @@ module _ (whole : IsWholeOrUnmade) (once : HasOneHistory) (may_end : JobsMayEnd)
   acknowledged tells told misused before now a b at legal are m H start = are
   acknowledged tells told starved before now a b at legal are m H start = are
   acknowledged tells told (making number result) before now a b at legal are m H start = are
+  acknowledged tells told (migrating result) before now a b at legal are m H start = are
   acknowledged tells told (unopened why) before now a b at legal are m H start = are
   acknowledged tells told (opened begun activity) before now a b at legal are m H start =
       let w : Work = activity_work begun.number begun.saved begun.history activity in
@@ -118,6 +120,7 @@ module _ (whole : IsWholeOrUnmade) (once : HasOneHistory) (may_end : JobsMayEnd)
   leaves_sound starved a b at legal m H start = untouched_leaves (IsSoundPair m H) a b at (begins m H a start)
   leaves_sound (making number result) a b at legal m H start =
       reads_leave m H a b start (at.kept (λ unfinished. whole m (spellings H) a.image start.start.start.file.file (number, unfinished))).0
+  leaves_sound (migrating result) a b at legal m H start = reads_leave m H a b start at
   leaves_sound (unopened why) a b at legal m H start = reads_leave m H a b start at.reads
   leaves_sound (opened begun activity) a b at legal m H start =
       recovery_leaves m begun.number H begun.history (activity_work begun.number begun.saved begun.history activity) a b legal.number at start
@@ -148,6 +151,8 @@ leaves_fresh starved words a b of at jobs m are fresh = untouched_leaves (IsFres
 leaves_fresh (making number result) words a b of at jobs m are fresh =
     let same : number ≡ m = (let it = of_init m words (making number result) are of in it.3.1 ∙ it.2) in
     making_leaves m result a b (subst (λ (k : ℕ). Creates k result a b) same at) jobs fresh
+leaves_fresh (migrating result) words a b of at jobs m are fresh = let it = of_init m words (migrating result) are of in
+    never_served _ it.0 Init Migrate it.1 it.3 (λ wrong. cc)
 leaves_fresh (unopened why) words a b of at jobs m are fresh = let it = of_init m words (unopened why) are of in
     never_unopened _ it.0 why it.1 it.3
 leaves_fresh (opened start (serving service)) words a b of at jobs m are fresh = let it =

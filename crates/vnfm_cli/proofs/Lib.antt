@@ -5,4 +5,5 @@ mod DoorLemmas
 mod EndingLemmas
 mod ExactLemmas
 mod HeadlineLemmas
+mod MigrationLemmas
 mod WholeLemmas

@@ -3,4 +3,5 @@ pub mod Deliveries
 pub mod DoorFaults
 pub mod Headline
 pub mod Laws
+pub mod Migration
 pub mod Promises

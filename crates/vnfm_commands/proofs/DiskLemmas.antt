@@ -9,9 +9,11 @@ use Rattle.executor.specs.declared.manager.OpenFault.{OpenFault}
 use Rattle.executor.specs.declared.manager.OpenFault.TheVariants as opening
 use Rattle.executor.specs.declared.manager.WorkFault.{WorkFault}
 use Rattle.executor.specs.declared.manager.WorkFault.TheVariants as working
-use Rattle.journal_core.specs.Asking.{FailsWhere, CreateAsks, CreatesCount}
+use Rattle.journal_core.specs.Asking.{FailsWhere, AsksToMake, CreatesCount}
 use Rattle.journal_core.specs.declared.create.CreateFault.{CreateFault}
 use Rattle.journal_core.specs.declared.create.CreateFault.TheVariants as creating
+use Rattle.journal_migration.specs.declared.migration.MigrateFault.{MigrateFault}
+use Rattle.journal_migration.specs.declared.migration.MigrateFault.TheVariants as moving
 use Rattle.occ_work.specs.Around.{CountJobsAlike, DiskFails}
 use Rattle.lcm_sessions.specs.declared.answer.OnboardFault.{OnboardFault}
 use Rattle.lcm_sessions.specs.declared.answer.OnboardFault.TheVariants as fault
@@ -69,12 +71,12 @@ synced P a b is never =
     })
 
 -- a journal was to be made
-pub making_fails : CreatesCount → (r : Result (Unit {0}) CreateFault) (manager : ℕ) (a b : SiteCounts) → CreateAsks r a b
+pub making_fails : CreatesCount → (longer : Bool) (r : Result (Unit {0}) CreateFault) (manager : ℕ) (a b : SiteCounts) → AsksToMake longer r a b
     → OnlyDiskFails (making_ending manager r ≡ Err SiteFault) a b
-making_fails counted (Ok done) manager a b asks = fails_never _ _ a b (counted (Ok done) a b asks) (λ wrong. cc wrong) (λ wrong. cc wrong)
-making_fails counted (Err creating.Taken) manager a b asks = fails_never _ _ a b (counted (Err creating.Taken) a b asks) (λ wrong. cc wrong)
+making_fails counted longer (Ok done) manager a b asks = fails_never _ _ a b (counted longer (Ok done) a b asks) (λ wrong. cc wrong) (λ wrong. cc wrong)
+making_fails counted longer (Err creating.Taken) manager a b asks = fails_never _ _ a b (counted longer (Err creating.Taken) a b asks) (λ wrong. cc wrong)
     (λ wrong. cc wrong)
-making_fails counted (Err creating.Disk) manager a b asks = fails_as _ _ a b (counted (Err creating.Disk) a b asks) (λ is. refl)
+making_fails counted longer (Err creating.Disk) manager a b asks = fails_as _ _ a b (counted longer (Err creating.Disk) a b asks) (λ is. refl)
     (λ is. refl)
 
 -- a journal that wasn't opened
@@ -88,6 +90,21 @@ unopened_fails opening.Memory ending a b f is = synced _ a b (f.stays (λ wrong.
 unopened_fails opening.Disk ending a b f is =
     subst (OnlyDiskFails (ending ≡ Err SiteFault) a) (sym (f.rose refl))
     (record { rose = λ _. refl; stays = λ never. absurd (never is); vim = refl; look = refl; refusals = refl })
+
+-- a journal that was migrated or not, by the file that it is in
+pub moved_fails : (moved : Result ℕ MigrateFault) (a b : SiteCounts) → FailsWhere (moved ≡ Err (moving.Open opening.Disk)) (asked sync a) b
+    → OnlyDiskFails (moved ≡ Err (moving.Open opening.Disk)) a b
+moved_fails (Ok records) a b f = synced _ a b (f.stays (λ wrong. cc wrong)) (λ wrong. cc wrong)
+moved_fails (Err (moving.Open opening.Disk)) a b f =
+    subst (OnlyDiskFails _ a) (sym (f.rose refl))
+    (record { rose = λ _. refl; stays = λ never. absurd (never refl); vim = refl; look = refl; refusals = refl })
+moved_fails (Err (moving.Open opening.Unmade)) a b f = synced _ a b (f.stays (λ wrong. cc wrong)) (λ wrong. cc wrong)
+moved_fails (Err (moving.Open (opening.Foreign place))) a b f = synced _ a b (f.stays (λ wrong. cc wrong)) (λ wrong. cc wrong)
+moved_fails (Err (moving.Open (opening.BadRecord n))) a b f = synced _ a b (f.stays (λ wrong. cc wrong)) (λ wrong. cc wrong)
+moved_fails (Err (moving.Open opening.Memory)) a b f = synced _ a b (f.stays (λ wrong. cc wrong)) (λ wrong. cc wrong)
+moved_fails (Err moving.Taken) a b f = synced _ a b (f.stays (λ wrong. cc wrong)) (λ wrong. cc wrong)
+moved_fails (Err (moving.Full end more)) a b f = synced _ a b (f.stays (λ wrong. cc wrong)) (λ wrong. cc wrong)
+moved_fails (Err moving.Disk) a b f = synced _ a b (f.stays (λ wrong. cc wrong)) (λ wrong. cc wrong)
 
 -- a descriptor that wasn't onboarded
 pub unonboarded_fails : {T : Type 0} (why : OnboardFault) (ending : Ending) (a b : SiteCounts)

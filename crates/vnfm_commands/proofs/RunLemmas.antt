@@ -1,5 +1,5 @@
 -- Opening a journal, and what is then done with it.
-use Rattle.std.proofs.Common.{◌≡◌, ◌∙◌, ◌<◌, ◌+◌, ℕ, List, Some, ap, refl, subst, sym}
+use Rattle.std.proofs.Common.{◌≡◌, ◌∙◌, ◌<◌, ◌+◌, ℕ, List, Some, None, Err, ap, refl, subst, sym}
 use Rattle.executor.proofs.ChainLemmas.{told_since}
 use Rattle.executor.specs.Chain.{AreTold}
 use Rattle.executor.specs.History.{HasHistory}
@@ -15,9 +15,17 @@ use Rattle.lcm_mouth.specs.Mouth.{MouthState}
 use Rattle.site_traits.specs.Counts.{CallCounts, OnlyDiskFails, SiteCounts}
 use Rattle.site_traits.specs.Peers.{OrchestratorState, Post}
 use Rattle.site_traits.specs.Site.{KeepsJobs, SiteState}
-use Rattle.vnfm_commands.specs.Course.{Course, misused, starved, making, opened, unopened, Activity, serving, onboarding, counting, IsOf, IsOfWords}
-use Rattle.vnfm_commands.specs.Course.{Opening, activity_work, told_by}
-use Rattle.command_line.specs.Words.{settings_of}
+use Rattle.vnfm_commands.specs.Course.{Course, misused, starved, making, migrating, opened, unopened, Activity, serving, onboarding, counting, IsOf}
+use Rattle.vnfm_commands.specs.Course.{IsOfWords, Opening, activity_work, told_by, unset}
+use Rattle.vnfm_commands.specs.Ending.{Ending}
+use Rattle.vnfm_commands.specs.Moving.{IsSpared, spare_of}
+use Rattle.vnfm_commands.specs.Words.{AreWordsOf}
+use Rattle.vnfm_commands.specs.declared.ending.Failure.TheVariants.{NoMemory}
+use Rattle.command_line.specs.Words.{Settles, settings_of}
+use Rattle.command_line.specs.declared.options.Command.TheVariants.{Migrate}
+use Rattle.command_line.specs.declared.options.SettingsFault.{SettingsFault}
+use Rattle.command_line.specs.declared.options.SettingsFault.TheVariants as setting
+use Rattle.site_traits.specs.Moments.{keeps_refl}
 use Rattle.command_line.specs.declared.options.Command.{Command}
 use Rattle.command_line.specs.declared.options.Settings.{Settings}
 use Rattle.vnfm_commands.specs.Outside.{Outside, Tells, beside, outside}
@@ -121,6 +129,25 @@ does_not_open t why w v leaves reads found rests = record {
   told = ap (λ (p : Peers). p.mouth.told) rests.peers;
 }
 
+-- a file that is as it was wasn't called
+pub spared_same : {S : Type 0} (state : S → SiteState) (counts : S → SiteCounts) (a b : S) → b ≡ a
+    → IsSpared (spare_of (state a) (counts a)) (spare_of (state b) (counts b))
+spared_same {S = S} state counts a b same =
+    let P : S → Type 0 = λ v. IsSpared (spare_of (state a) (counts a)) (spare_of (state v) (counts v)) in
+    subst P (sym same) (record {
+      site = record { image = refl; moment = refl; since = λ t p left. left; still = λ t p left. left };
+      jobs = keeps_refl (state a);
+      counts = refl;
+    })
+
+-- words of `migrate` that set nothing found no memory
+pub unset_starves : (fault : SettingsFault) (words : List (List ℕ)) (ending : Ending) → ending ≡ Err (unset fault)
+    → Settles (Err fault) (settings_of words) → AreWordsOf Migrate words → ending ≡ Err NoMemory
+unset_starves setting.Usage words ending is settles are = commanded words are.settings are.set settles where
+  commanded : {P : Type 0} (words : List (List ℕ)) (s : Settings) → settings_of words ≡ Some s → settings_of words ≡ None → P
+  commanded words s some none = cc
+unset_starves setting.Memory words ending is settles are = is
+
 -- the command of what words set is the one that they are of
 pub command_is : (words : List (List ℕ)) (s t : Settings) (command : Command) → settings_of words ≡ Some s → settings_of words ≡ Some t
     → t.command ≡ command → s.command ≡ command
@@ -134,5 +161,6 @@ pub of_words : (words : List (List ℕ)) (s : Settings) (course : Course) → se
 of_words words s misused set is = absurd is
 of_words words s starved set is = absurd is
 of_words words s (making number result) set is = record { settings = s; set = set; is = is }
+of_words words s (migrating result) set is = record { settings = s; set = set; is = is }
 of_words words s (unopened why) set is = record { settings = s; set = set; is = is }
 of_words words s (opened start activity) set is = record { settings = s; set = set; is = is }

@@ -7,6 +7,8 @@ use Rattle.executor.specs.declared.manager.OpenFault.{OpenFault}
 use Rattle.executor.specs.declared.manager.OpenFault.TheVariants as opening
 use Rattle.journal_core.specs.declared.create.CreateFault.{CreateFault}
 use Rattle.journal_core.specs.declared.create.CreateFault.TheVariants as creating
+use Rattle.journal_migration.specs.declared.migration.MigrateFault.{MigrateFault}
+use Rattle.journal_migration.specs.declared.migration.MigrateFault.TheVariants as moving
 use Rattle.lcm_sessions.specs.Session.{Talk, behind_told, life, work_of}
 use Rattle.lcm_events.specs.declared.events.Event.{Event}
 use Rattle.lcm_events.specs.declared.states.Role.{Role}
@@ -28,10 +30,10 @@ use Rattle.vnfm_commands.specs.declared.ending.Failure.{Failure}
 use Rattle.vnfm_commands.specs.declared.ending.Failure.TheVariants.{Usage, SiteFault, DoorFault, NoJournal, NotAJournal}
 use Rattle.vnfm_commands.specs.declared.ending.Failure.TheVariants.{NoMemory, BadRecord, JournalFull, DescriptorRefused}
 use Rattle.vnfm_commands.specs.declared.ending.Failure.TheVariants.{Taken}
-use Rattle.vnfm_commands.specs.declared.ending.Report.TheVariants.{Counted, Done, Made, Onboarded}
+use Rattle.vnfm_commands.specs.declared.ending.Report.TheVariants.{Counted, Done, Made, Migrated, Onboarded}
 use Rattle.vnfm_commands.specs.declared.rounds.ServedRole.{ServedRole}
 use Rattle.vnfm_commands.specs.declared.rounds.ServedRole.TheVariants.{Stated, ByDoor}
-use Rattle.command_line.specs.declared.options.Command.TheVariants.{Check, Init, Onboard, Once}
+use Rattle.command_line.specs.declared.options.Command.TheVariants.{Check, Init, Migrate, Onboard, Once}
 use Rattle.command_line.specs.declared.options.Settings.{Settings}
 use Rattle.command_line.specs.declared.options.SettingsFault.{SettingsFault}
 use Rattle.command_line.specs.declared.options.SettingsFault.TheVariants as setting
@@ -97,10 +99,11 @@ pub record Opening : Type 0 where
   pub history : List Event
 
 -- How a run went: the words were no command, there was no memory for what they set, a journal was to be made for this
--- manager, a journal wasn't opened, or it was opened and this was done.
+-- manager, one of format 1 was to be migrated, a journal wasn't opened, or it was opened and this was done.
 pub data Course : Type 0 where
   misused starved : Course
   making : ℕ → Result (Unit {0}) CreateFault → Course
+  migrating : Result ℕ MigrateFault → Course
   unopened : OpenFault → Course
   opened : Opening → Activity → Course
 
@@ -242,6 +245,18 @@ abbrev pub making_ending : ℕ → Result (Unit {0}) CreateFault → Ending
 making_ending manager (Ok done) = Ok (Made manager)
 making_ending manager (Err why) = Err (unmade why)
 
+-- which failure a journal is that wasn't migrated
+abbrev pub unmigrated : MigrateFault → Failure
+unmigrated (moving.Open why) = unopened_failure why
+unmigrated moving.Taken = Taken
+unmigrated (moving.Full end more) = JournalFull end more
+unmigrated moving.Disk = SiteFault
+
+-- how a run ends where a journal of format 1 was to be migrated
+abbrev pub migrating_ending : Result ℕ MigrateFault → Ending
+migrating_ending (Ok records) = Ok (Migrated records)
+migrating_ending (Err why) = Err (unmigrated why)
+
 -- the histories behind all replies that a run tells, the latest first: behind each its request is answered
 abbrev pub told_of : Course → List (List Event)
 told_of (opened start activity) = told_by start.number start.saved start.history activity
@@ -252,6 +267,7 @@ abbrev pub ending_of : Course → Ending
 ending_of misused = Err Usage
 ending_of starved = Err NoMemory
 ending_of (making manager result) = making_ending manager result
+ending_of (migrating result) = migrating_ending result
 ending_of (unopened why) = Err (unopened_failure why)
 ending_of (opened start activity) = activity_ending start.saved start.history activity
 
@@ -276,6 +292,7 @@ abbrev pub IsOf : Settings → Course → Type 0
 IsOf s misused = ⊥
 IsOf s starved = ⊥
 IsOf s (making number result) = (s.command ≡ Init) × (number ≡ s.manager)
+IsOf s (migrating result) = s.command ≡ Migrate
 IsOf s (unopened why) = loads s.command ≡ true
 IsOf s (opened start activity) = IsActivityOf s activity
 

@@ -11,7 +11,7 @@ use Rattle.vnfm_commands.specs.declared.ending.Failure.TheVariants.{Usage, SiteF
 use Rattle.vnfm_commands.specs.declared.ending.Failure.TheVariants.{NoMemory, BadRecord, JournalFull, DescriptorRefused}
 use Rattle.vnfm_commands.specs.declared.ending.Failure.TheVariants.{Taken}
 use Rattle.vnfm_commands.specs.declared.ending.Report.{Report}
-use Rattle.vnfm_commands.specs.declared.ending.Report.TheVariants.{Counted, Done, Made, Onboarded}
+use Rattle.vnfm_commands.specs.declared.ending.Report.TheVariants.{Counted, Done, Made, Migrated, Onboarded}
 use Rattle.vnfm_commands.specs.declared.totals.Totals.{Totals}
 
 -- how a run ended: what is reported, or why it failed
@@ -74,16 +74,21 @@ abbrev pub totals_line : Totals → List ℕ
 totals_line t = codes "records " ++ decimal t.records ++ codes ", instances " ++ decimal t.instances
     ++ codes ", ongoing " ++ decimal t.ongoing ++ codes ", subscriptions " ++ decimal t.subscriptions ++ codes "\n"
 
+-- the line of a journal that was migrated, of so many records
+abbrev pub migrated_line : ℕ → List ℕ
+migrated_line records = codes "migrated " ++ decimal records ++ codes " records\n"
+
 -- the line of a report
 abbrev pub report_line : Report → List ℕ
 report_line (Done rounds) = codes "done after " ++ decimal rounds ++ codes " rounds\n"
 report_line (Made manager) = numbered_line (codes "journal made for manager ") manager
 report_line (Onboarded d) = onboarded_line d
 report_line (Counted t) = totals_line t
+report_line (Migrated records) = migrated_line records
 
 -- the line of a failure
 abbrev pub failure_line : Failure → List ℕ
-failure_line Usage = codes "usage: vnfm init|onboard|once|serve|check|trial\n"
+failure_line Usage = codes "usage: vnfm init|onboard|once|serve|check|trial|migrate\n"
 failure_line SiteFault = codes "site fault\n"
 failure_line DoorFault = codes "door fault\n"
 failure_line NoJournal = codes "no journal\n"

@@ -1,5 +1,6 @@
 pub mod Course
 pub mod Ending
+pub mod Moving
 pub mod Outside
 pub mod Rounds
 pub mod Runs

@@ -2,7 +2,7 @@
 use Rattle.std.specs.Prelude.{◌≡◌, ℕ, List, Bool, true, false, Some}
 use Rattle.command_line.specs.Words.{settings_of}
 use Rattle.command_line.specs.declared.options.Command.{Command}
-use Rattle.command_line.specs.declared.options.Command.TheVariants.{Check, Init, Onboard, Once}
+use Rattle.command_line.specs.declared.options.Command.TheVariants.{Check, Init, Migrate, Onboard, Once}
 use Rattle.command_line.specs.declared.options.Settings.{Settings}
 
 -- the words are a command
@@ -22,12 +22,13 @@ pub record AreInit (manager : ℕ) (words : List (List ℕ)) : Type 0 where
   pub is : settings.command ≡ Init
   pub number : settings.manager ≡ manager
 
--- the command loads the journal: every one but `init`
+-- the command loads the journal, of the present format: every one but `init` and `migrate`
 abbrev pub loads : Command → Bool
 loads Init = false
 loads Onboard = true
 loads Once = true
 loads Check = true
+loads Migrate = false
 
 -- the words are a command that loads the journal
 pub record AreLoading (words : List (List ℕ)) : Type 0 where

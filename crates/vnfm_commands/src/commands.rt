@@ -1,17 +1,19 @@
-//! What the words of a command line have done: a journal is made, a descriptor is onboarded, rounds are made, or what a
-//! journal has is counted.
-ghost use Rattle.std.specs.Prelude.{◌≡◌, ◌≢◌, ◌↔◌, List, None, Result, true};
+//! What the words of a command line have done: a journal is made, a descriptor is onboarded, rounds are made, what a
+//! journal has is counted, or a journal of format 1 is migrated.
+ghost use Rattle.std.specs.Prelude.{◌≡◌, ◌≢◌, ◌↔◌, ℕ, List, None, Result, true};
 ghost use Rattle.command_line.specs.Words.{settings_of};
-ghost use Rattle.command_line.specs.declared.options.Command.TheVariants.{Check, Once};
+ghost use Rattle.command_line.specs.declared.options.Command.TheVariants.{Migrate, Onboard, Once};
 ghost use Rattle.executor.specs.Managed.{IsReady};
 ghost use Rattle.journal_core.specs.Create.{Creates};
 ghost use Rattle.journal_core.specs.declared.create.CreateFault.{CreateFault};
+ghost use Rattle.journal_migration.specs.declared.migration.MigrateFault.{MigrateFault};
 ghost use Rattle.lcm_events.specs.declared.events.Event.{Event};
 ghost use Rattle.occ_work.specs.Around.{CountJobsAlike, DiskFails};
 ghost use Rattle.site_traits.specs.Counts.{OnlyDiskFails};
 ghost use Rattle.site_traits.specs.Site.{KeepsJobs};
 ghost use Rattle.vnfm_commands.specs.Course.{Course, Activity, IsActivityOf, IsOf, activity_ending, ending_of};
-ghost use Rattle.vnfm_commands.specs.Course.{making_ending};
+ghost use Rattle.vnfm_commands.specs.Course.{making_ending, migrating_ending};
+ghost use Rattle.vnfm_commands.specs.Moving.{Moves, MovesOrStarves, spare_of};
 ghost use Rattle.vnfm_commands.specs.Outside.{outside, telling};
 ghost use Rattle.vnfm_commands.specs.Runs.{Pursues, Does, Runs};
 ghost use Rattle.vnfm_commands.specs.Words.{AreWordsOf, loads};
@@ -22,6 +24,7 @@ use crate::totals::count_all;
 use command_line::{Command, Settings, settings};
 use executor::{Manager, works_add_up, works_with_jobs_add_up};
 use journal_core::{Journal, faults_are_counted};
+use journal_migration::migrate;
 use lcm_mouth::Mouth;
 use lcm_sessions::onboard;
 use site_traits::{Clock, Courier, Door, Orchestrator, Site};
@@ -32,10 +35,11 @@ use vnfm_base::Text;
 ///
 /// What each command does, and with which failure it ends, is told at `run` of the crate above.
 /// Source: SOL 003 clause 5; words and commands are an own rule, docs/FORMATS.md.
-pub fn obey<S: Site, D: Door, O: Orchestrator, C: Courier, K: Clock>(
+pub fn obey<S: Site, T: Site, D: Door, O: Orchestrator, C: Courier, K: Clock>(
     alloc: Global,
     words: &[Text],
     site: &mut S,
+    spare: &mut T,
     mouth: &mut Mouth<D>,
     orchestrator: &mut O,
     courier: &mut C,
@@ -49,23 +53,38 @@ pub fn obey<S: Site, D: Door, O: Orchestrator, C: Courier, K: Clock>(
         × (result ≡ ending_of course) }
     ensures unasked { ¬ (AreWordsOf Once words.now) → orchestrator.new ≡ orchestrator.old }
     ensures unposted { ¬ (AreWordsOf Once words.now) → courier.new ≡ courier.old }
-    ensures unheard { AreWordsOf Check words.now → mouth.new ≡ mouth.old }
-    ensures untimed { AreWordsOf Check words.now → clock.new ≡ clock.old }
+    ensures unheard { ¬ (AreWordsOf Onboard words.now) → ¬ (AreWordsOf Once words.now) → mouth.new ≡ mouth.old }
+    ensures untimed { ¬ (AreWordsOf Onboard words.now) → ¬ (AreWordsOf Once words.now) → clock.new ≡ clock.old }
+    ensures spared { ¬ (AreWordsOf Migrate words.now) → spare.new ≡ spare.old }
+    ensures moves { AreWordsOf Migrate words.now → MovesOrStarves S.tells T.tells result
+        (spare_of (S.state site.old) (S.counts site.old)) (spare_of (S.state site.new) (S.counts site.new))
+        (spare_of (T.state spare.old) (T.counts spare.old)) (spare_of (T.state spare.new) (T.counts spare.new)) }
     ensures usage { (result ≡ Err Failure.Usage) ↔ (settings_of words.now ≡ None) }
-    ensures disk { DiskFails (result ≡ Err Failure.SiteFault) (S.counts site.old) (S.counts site.new) }
+    ensures disk { ¬ (AreWordsOf Migrate words.now)
+        → DiskFails (result ≡ Err Failure.SiteFault) (S.counts site.old) (S.counts site.new) }
     ensures untouched_jobs { ¬ (AreWordsOf Once words.now) → CountJobsAlike (S.counts site.old) (S.counts site.new) }
 {
     works_add_up::<S>();
     let settings = settings(alloc, words)?;
-    perform(alloc, &settings, site, mouth, orchestrator, courier, clock)
+    perform(
+        alloc,
+        &settings,
+        site,
+        spare,
+        mouth,
+        orchestrator,
+        courier,
+        clock,
+    )
 }
 
-/// Performs the command: makes the journal, or opens it, and then onboards a descriptor, makes the rounds that the words
-/// set, or counts what the journal has.
-fn perform<S: Site, D: Door, O: Orchestrator, C: Courier, K: Clock>(
+/// Performs the command: makes the journal, migrates it, or opens it, and then onboards a descriptor, makes the rounds
+/// that the words set, or counts what the journal has.
+fn perform<S: Site, T: Site, D: Door, O: Orchestrator, C: Courier, K: Clock>(
     alloc: Global,
     settings: &Settings,
     site: &mut S,
+    spare: &mut T,
     mouth: &mut Mouth<D>,
     orchestrator: &mut O,
     courier: &mut C,
@@ -80,9 +99,15 @@ fn perform<S: Site, D: Door, O: Orchestrator, C: Courier, K: Clock>(
         × (result ≡ ending_of course) }
     ensures unasked { settings.now.command ≢ Once → orchestrator.new ≡ orchestrator.old }
     ensures unposted { settings.now.command ≢ Once → courier.new ≡ courier.old }
-    ensures unheard { settings.now.command ≡ Check → mouth.new ≡ mouth.old }
-    ensures untimed { settings.now.command ≡ Check → clock.new ≡ clock.old }
-    ensures disk { DiskFails (result ≡ Err Failure.SiteFault) (S.counts site.old) (S.counts site.new) }
+    ensures unheard { settings.now.command ≢ Onboard → settings.now.command ≢ Once → mouth.new ≡ mouth.old }
+    ensures untimed { settings.now.command ≢ Onboard → settings.now.command ≢ Once → clock.new ≡ clock.old }
+    ensures spared { settings.now.command ≢ Migrate → spare.new ≡ spare.old }
+    ensures moves { settings.now.command ≡ Migrate → (moved : Result ℕ MigrateFault)
+        × (result ≡ migrating_ending moved) × Moves S.tells T.tells moved
+        (spare_of (S.state site.old) (S.counts site.old)) (spare_of (S.state site.new) (S.counts site.new))
+        (spare_of (T.state spare.old) (T.counts spare.old)) (spare_of (T.state spare.new) (T.counts spare.new)) }
+    ensures disk { settings.now.command ≢ Migrate
+        → DiskFails (result ≡ Err Failure.SiteFault) (S.counts site.old) (S.counts site.new) }
     ensures untouched_jobs { settings.now.command ≢ Once → CountJobsAlike (S.counts site.old) (S.counts site.new) }
 {
     works_add_up::<S>();
@@ -111,6 +136,7 @@ fn perform<S: Site, D: Door, O: Orchestrator, C: Courier, K: Clock>(
             let manager = Manager::load(alloc, site)?;
             Ok(Report::Counted(count_all(&manager)))
         }
+        Command::Migrate => move_journal(alloc, site, spare),
     }
 }
 
@@ -125,4 +151,14 @@ fn init<S: Site>(manager: u32, site: &mut S) -> Ending
     faults_are_counted();
     Journal::create(site, manager)?;
     Ok(Report::Made(manager))
+}
+
+/// Makes the spare file of the journal of format 1 in the site's file.
+fn move_journal<S: Site, T: Site>(alloc: Global, site: &mut S, spare: &mut T) -> Ending
+    ensures { (moved : Result ℕ MigrateFault) × (result ≡ migrating_ending moved) × Moves S.tells T.tells moved
+        (spare_of (S.state site.old) (S.counts site.old)) (spare_of (S.state site.new) (S.counts site.new))
+        (spare_of (T.state spare.old) (T.counts spare.old)) (spare_of (T.state spare.new) (T.counts spare.new)) }
+{
+    let records = migrate(alloc, site, spare)?;
+    Ok(Report::Migrated(records))
 }

@@ -5,7 +5,7 @@ ghost use Rattle.site_traits.specs.Sink.{Puts, SinkCause};
 ghost use Rattle.vnfd_document.specs.Texts.{fault_text};
 ghost use Rattle.vnfm_commands.specs.Ending.{Ends, failure_line, failure_status, full_line, numbered_line};
 ghost use Rattle.vnfm_commands.specs.Ending.{onboarded_line, output_of, refusal_text, refused_line, report_line};
-ghost use Rattle.vnfm_commands.specs.Ending.{totals_line, with_count};
+ghost use Rattle.vnfm_commands.specs.Ending.{migrated_line, totals_line, with_count};
 
 use crate::totals::Totals;
 use arrayvec::ArrayString;
@@ -13,6 +13,7 @@ use command_line::SettingsFault;
 use executor::OpenFault;
 use itoa::Buffer;
 use journal_core::CreateFault;
+use journal_migration::MigrateFault;
 use lcm_sessions::{DescriptorRefusal, OnboardFault, Onboarded};
 use notify_outbox::DeliveryFault;
 use site_traits::{Sink, SinkFailed};
@@ -30,6 +31,8 @@ pub enum Report {
     Onboarded(Onboarded),
     /// A journal has so much.
     Counted(Totals),
+    /// A journal of so many records was migrated.
+    Migrated(u64),
 }
 
 /// Why a command didn't do its work, by its status.
@@ -59,7 +62,7 @@ pub enum Failure {
     },
     /// A descriptor was refused.
     DescriptorRefused(DescriptorRefusal),
-    /// The file isn't unfinished for the manager for which a journal was to be made.
+    /// The file isn't unfinished for the manager for which a journal was to be made, or migrated.
     Taken,
 }
 
@@ -107,7 +110,7 @@ impl Failure {
         ensures cause { SinkCause (W.counts out.old) (W.counts out.new) result }
     {
         match self {
-            Failure::Usage => out.put(b"usage: vnfm init|onboard|once|serve|check|trial\n"),
+            Failure::Usage => out.put(b"usage: vnfm init|onboard|once|serve|check|trial|migrate\n"),
             Failure::SiteFault => out.put(b"site fault\n"),
             Failure::DoorFault => out.put(b"door fault\n"),
             Failure::NoJournal => out.put(b"no journal\n"),
@@ -136,6 +139,7 @@ impl Report {
             Report::Made(manager) => out.put(made_line(*manager).as_str().as_bytes()),
             Report::Onboarded(said) => out.put(onboarded_line(said).as_str().as_bytes()),
             Report::Counted(totals) => out.put(totals_line(totals).as_str().as_bytes()),
+            Report::Migrated(records) => out.put(migrated_line(*records).as_str().as_bytes()),
         }
     }
 }
@@ -232,6 +236,18 @@ fn totals_line(totals: &Totals) -> ArrayString<160>
     line.push_str(", subscriptions ");
     line.push_str(digits.format(totals.subscriptions));
     line.push_str("\n");
+    line
+}
+
+/// The line of a journal that was migrated, of so many records.
+fn migrated_line(records: u64) -> ArrayString<64>
+    ensures { result.bytes ≡ migrated_line records }
+{
+    let mut digits = Buffer::new();
+    let mut line = ArrayString::new();
+    line.push_str("migrated ");
+    line.push_str(digits.format(records));
+    line.push_str(" records\n");
     line
 }
 
@@ -334,6 +350,21 @@ impl From<OpenFault> for Failure {
             OpenFault::BadRecord(n) => Failure::BadRecord(n),
             OpenFault::Disk => Failure::SiteFault,
             OpenFault::Memory => Failure::NoMemory,
+        }
+    }
+}
+
+impl From<MigrateFault> for Failure {
+    ghost use Rattle.vnfm_commands.specs.Course.{unmigrated};
+
+    ghost from_gives = { λ fault failure. failure ≡ unmigrated fault };
+
+    fn from(fault: MigrateFault) -> Failure {
+        match fault {
+            MigrateFault::Open(why) => Failure::from(why),
+            MigrateFault::Taken => Failure::Taken,
+            MigrateFault::Full { end, more } => Failure::JournalFull { end, more },
+            MigrateFault::Disk => Failure::SiteFault,
         }
     }
 }

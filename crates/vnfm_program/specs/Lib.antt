@@ -1,3 +1,4 @@
+pub mod Opening
 pub mod Output
 pub mod Program
 pub mod Words

@@ -3,19 +3,15 @@ use Rattle.std.specs.Prelude.{◌≡◌, ◌⊎◌, ◌+◌, ℕ, List, [], Bool
 use Rattle.std.specs.declared.alloc.AllocError.{AllocError}
 use Rattle.command_line.specs.Words.{settings_of}
 use Rattle.command_line.specs.declared.options.Command.{Command}
-use Rattle.command_line.specs.declared.options.Command.TheVariants.{Check, Init, Onboard, Once}
+use Rattle.command_line.specs.declared.options.Command.TheVariants.{Check, Init, Migrate, Onboard, Once}
 use Rattle.command_line.specs.declared.options.Settings.{Settings}
 use Rattle.host_calls.specs.Files.{FilesState, Hold}
 use Rattle.lcm_mouth.specs.Mouth.{MouthState}
 use Rattle.notify_outbox.specs.Lent.{Carrier}
 use Rattle.occ_work.specs.Around.{Peer}
-use Rattle.outside_edges.specs.Having.{LeavesAll, Seeks}
-use Rattle.outside_edges.specs.Site.{IsExplained, IsHeld, counts_of, state_in}
-use Rattle.outside_edges.specs.declared.real_site.FolderSync.{FolderSync}
-use Rattle.outside_edges.specs.declared.real_site.FolderSync.TheVariants.{Always, WhereMade}
+use Rattle.outside_edges.specs.Site.{counts_of, state_in}
+use Rattle.outside_edges.specs.declared.jobs.NoJobs.{NoJobs}
 use Rattle.outside_edges.specs.declared.real_site.RealSite.{RealSite}
-use Rattle.outside_edges.specs.declared.real_site.WhyLost.{WhyLost}
-use Rattle.outside_edges.specs.declared.real_site.WhyLost.TheVariants.{Memory}
 use Rattle.program_words.specs.Pages.{page_of}
 use Rattle.program_words.specs.Reasons.{reason_of}
 use Rattle.program_words.specs.declared.page.Page.{Page}
@@ -23,19 +19,24 @@ use Rattle.program_words.specs.declared.reason.Reason.{Reason}
 use Rattle.program_words.specs.declared.reason.Reason.TheVariants.{Illegible}
 use Rattle.site_traits.specs.Site.{SiteState}
 use Rattle.standard_streams.specs.Numbers.{AreHeld, Numbers}
+use Rattle.vnfm_cli.specs.Migration.{MigratesAs}
 use Rattle.vnfm_cli.specs.Promises.{Ground, Promises}
 use Rattle.vnfm_commands.specs.Ending.{Output}
+use Rattle.vnfm_commands.specs.Moving.{Spare}
 use Rattle.vnfm_commands.specs.Outside.{Outside}
 use Rattle.vnfm_commands.specs.Outside as run
+use Rattle.vnfm_commands.specs.Words.{AreWordsOf}
+use Rattle.vnfm_program.specs.Opening.{FilesMeaning, OpensFiles, Sites, StarvesOpening}
 use Rattle.vnfm_program.specs.Output.{Explains, Prints, Starves}
 
--- What the program works with beside its words and its mouth: what opens the null device, the files and the site, on
--- which no file was opened yet, as they are; the orchestrator, the courier, the clock, standard output and standard
--- error by what they show.
+-- What the program works with beside its words and its mouth: what opens the null device, the files, the site of the
+-- journal and the spare one of the file to which it is migrated, on which no file was opened yet, as they are; the
+-- orchestrator, the courier, the clock, standard output and standard error by what they show.
 pub record Machine (N H F J : Type 0) : Type 0 where
   pub device : N
   pub files : H
   pub site : RealSite F J
+  pub spare : RealSite F NoJobs
   pub orchestrator : Peer
   pub courier : Carrier
   pub clock : List ℕ
@@ -54,6 +55,20 @@ pub record Meaning (N H F : Type 0) : Type 1 where
   pub state : F → SiteState
   pub hold : F → Hold
 
+-- the part of it that is about files
+abbrev pub files_meaning : {N H F : Type 0} → Meaning N H F → FilesMeaning H F
+files_meaning g = record {
+  tells = g.files_tells;
+  file_tells = g.outside.site;
+  places = g.places;
+  state = g.state;
+  hold = g.hold;
+}
+
+-- what the files are opened by, and on
+abbrev pub sites_of : {N H F J : Type 0} → Machine N H F J → Sites H F J
+sites_of a = record { files = a.files; site = a.site; spare = a.spare }
+
 -- all of it, with the mouth where there was memory for one
 pub record Objects (N H F J : Type 0) : Type 0 where
   pub mouth : Result MouthState AllocError
@@ -70,19 +85,12 @@ answers Init = false
 answers Onboard = false
 answers Once = true
 answers Check = false
+answers Migrate = false
 
 -- where the line goes that tells how the run went: that of words that set nothing goes to standard output
 abbrev pub is_told_on_error : Option Settings → Bool
 is_told_on_error None = false
 is_told_on_error (Some settings) = answers settings.command
-
--- the folder of a file that `init` makes is synced each time, so that the name of a journal that it answered for is on
--- the disk
-abbrev pub folder_of : Command → FolderSync
-folder_of Init = Always
-folder_of Onboard = WhereMade
-folder_of Once = WhereMade
-folder_of Check = WhereMade
 
 -- a write on the mouth's connection failed
 abbrev pub is_undelivered : MouthState → Bool
@@ -104,9 +112,23 @@ module _ {N H F J : Type 0} where
   abbrev pub ground : Meaning N H F → Scene N H F J → Output → Ground
   ground g a lines = record { outside = outside_of g a; lines = lines }
 
+  -- what the file to which a journal is migrated, and its counts, show a run
+  abbrev pub spare_of : Meaning N H F → Machine N H F J → Spare
+  spare_of g a = record { site = state_in g.state a.spare.file; counts = counts_of a.spare }
+
   -- what is to be said of a run with this status that left this
   abbrev pub reason_at : ℕ → Scene N H F J → Option Reason
-  reason_at status a = reason_of status a.machine.site.why (is_undelivered a.mouth) a.mouth.account
+  reason_at status a =
+      reason_of status a.machine.site.why a.machine.spare.why (is_undelivered a.mouth) a.mouth.account
+
+  -- What one run of these words that ended with this status did, whose line went to a sink that showed this before it
+  -- and behind it. The file to which a journal is migrated, and its counts, are left alone but for `migrate`.
+  pub record RunsOnce (g : Meaning N H F) (sink : Type 0) (words : List (List ℕ)) (status : ℕ) (a b : Scene N H F J)
+      (before behind : Output) : Type 0 where
+    pub promises : Promises g.outside sink words status (ground g a before) (ground g b behind)
+    pub spared : ¬ (AreWordsOf Migrate words) → b.machine.spare ≡ a.machine.spare
+    pub migration : MigratesAs g.outside g.outside.site sink words status (ground g a before) (ground g b behind)
+        (spare_of g a.machine) (spare_of g b.machine)
 
   -- the device and the files are as they were
   pub record OpensNoMore (a b : Machine N H F J) : Type 0 where
@@ -117,14 +139,14 @@ module _ {N H F J : Type 0} where
   -- standard error.
   pub record SpeaksOnOutput (g : Meaning N H F) (words : List (List ℕ)) (status : ℕ)
       (a b : Scene N H F J) : Type 0 where
-    pub promises : Promises g.outside g.lines words status (ground g a a.machine.lines) (ground g b b.machine.lines)
+    pub runs : RunsOnce g g.lines words status a b a.machine.lines b.machine.lines
     pub explains : Explains g.errors (reason_at status b) words a.machine.errors b.machine.errors
     pub kept : OpensNoMore a.machine b.machine
 
   -- the same, with the line to standard error too
   pub record SpeaksOnError (g : Meaning N H F) (words : List (List ℕ)) (status : ℕ) (a b : Scene N H F J) : Type 0 where
     pub behind : Output
-    pub promises : Promises g.outside g.errors words status (ground g a a.machine.errors) (ground g b behind)
+    pub runs : RunsOnce g g.errors words status a b a.machine.errors behind
     pub explains : Explains g.errors (reason_at status b) words behind b.machine.errors
     pub silent : b.machine.lines ≡ a.machine.lines
     pub kept : OpensNoMore a.machine b.machine
@@ -139,26 +161,25 @@ module _ {N H F J : Type 0} where
     pub starves : Starves g.errors status a.machine.errors b.machine.errors
     pub kept : b ≡ record a { machine = record a.machine { errors = b.machine.errors } }
 
-  -- The file at the path of the settings was asked for, while the numbers of the standard streams are held by the one
-  -- holding that was made. Where it was lost, it was for this cause. Whatever stood at a path stands as it did.
-  pub record AsksForFile (g : Meaning N H F) (settings : Settings) (lost : Option WhyLost)
-      (a b : Machine N H F J) : Type 0 where
-    pub streams : g.device_tells → AreHeld (g.numbers a.device) (g.numbers b.device)
-    pub seeks : g.files_tells → Seeks settings.journal (folder_of settings.command) lost (g.places a.files)
-        (g.places b.files)
-    pub stands : g.files_tells → LeavesAll settings.journal (g.places a.files) (g.places b.files)
+  -- the numbers of the standard streams are held, by the one holding that was made
+  abbrev pub HoldsStreams : Meaning N H F → Machine N H F J → Machine N H F J → Type 0
+  HoldsStreams g a b = g.device_tells → AreHeld (g.numbers a.device) (g.numbers b.device)
 
-  -- there was no memory to open the file that the words name: that was said, and nothing else was done
+  -- While the numbers of the standard streams were held there was no memory to open a file that the words name: that
+  -- was said, and nothing else was done.
   pub record IsStarvedOpening (g : Meaning N H F) (words : List (List ℕ)) (status : ℕ)
       (a b : Objects N H F J) : Type 0 where
     pub settings : Settings
     pub set : settings_of words ≡ Some settings
-    pub asks : AsksForFile g settings (Some Memory) a.machine b.machine
+    pub streams : HoldsStreams g a.machine b.machine
+    pub opening : StarvesOpening (files_meaning g) settings (sites_of a.machine) (sites_of b.machine)
     pub starves : Starves g.errors status a.machine.errors b.machine.errors
     pub kept : b ≡ record a {
       machine = record a.machine {
         device = b.machine.device;
         files = b.machine.files;
+        site = b.machine.site;
+        spare = b.machine.spare;
         errors =
             b.machine.errors;
       };
@@ -169,14 +190,12 @@ module _ {N H F J : Type 0} where
     pub prints : Prints g.lines page status a.machine.lines b.machine.lines
     pub kept : b ≡ record a { machine = record a.machine { lines = b.machine.lines } }
 
-  -- The file at the path of the settings was opened, or it is told why it couldn't be had. Nothing else was done.
-  pub record OpensFile (g : Meaning N H F) (settings : Settings) (a b : Machine N H F J) : Type 0 where
-    pub asks : AsksForFile g settings b.site.why a b
-    pub file : g.files_tells → g.outside.site → IsHeld g.state g.hold settings.journal
-        (folder_of settings.command) b.site.file (g.places a.files) (g.places b.files)
-    pub why : IsExplained b.site.file b.site.why
-    pub counts : counts_of b.site ≡ counts_of a.site
-    pub kept : b ≡ record a { device = b.device; files = b.files; site = b.site }
+  -- While the numbers of the standard streams are held, the files that the settings name were opened, each on its site,
+  -- or it is told why it couldn't be had. Nothing else was done.
+  pub record OpensAll (g : Meaning N H F) (settings : Settings) (a b : Machine N H F J) : Type 0 where
+    pub streams : HoldsStreams g a b
+    pub opens : OpensFiles (files_meaning g) settings (sites_of a) (sites_of b)
+    pub kept : b ≡ record a { device = b.device; files = b.files; site = b.site; spare = b.spare }
 
   -- the numbers of the standard streams couldn't be taken, and nothing was done
   pub record OpensNothing (g : Meaning N H F) (a b : Machine N H F J) : Type 0 where
@@ -186,9 +205,9 @@ module _ {N H F J : Type 0} where
   -- what is done before the run: nothing for words that set nothing
   abbrev pub Opens : Meaning N H F → Option Settings → Machine N H F J → Machine N H F J → Type 0
   Opens g None a b = b ≡ a
-  Opens g (Some settings) a b = OpensFile g settings a b ⊎ OpensNothing g a b
+  Opens g (Some settings) a b = OpensAll g settings a b ⊎ OpensNothing g a b
 
-  -- The file that the words name was opened, then the words were obeyed by one run over it, and then its status was
+  -- The files that the words name were opened, then the words were obeyed by one run over them, and then its status was
   -- explained. Nothing else was done, before or behind the run.
   pub record Obeys (g : Meaning N H F) (words : List (List ℕ)) (status : ℕ) (a b : Objects N H F J) : Type 0 where
     pub opened : Machine N H F J
@@ -217,9 +236,8 @@ module _ {N H F J : Type 0} where
     pub after : MouthState
     pub has_mouth : a.mouth ≡ Ok before
     pub mouth : b.mouth ≡ Ok after
-    pub promises : Promises g.outside g.lines [] status
-        (ground g (record { mouth = before; machine = a.machine }) a.machine.lines)
-        (ground g (record { mouth = after; machine = b.machine }) b.machine.lines)
+    pub runs : RunsOnce g g.lines [] status (record { mouth = before; machine = a.machine })
+        (record { mouth = after; machine = b.machine }) a.machine.lines b.machine.lines
     pub explains : Explains g.errors (Some Illegible) [] a.machine.errors b.machine.errors
     pub kept : OpensNoMore a.machine b.machine
 

@@ -3,6 +3,7 @@
 #![tactic(auto)]
 
 mod machine;
+mod opening;
 mod output;
 mod program;
 mod words;

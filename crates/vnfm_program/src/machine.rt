@@ -2,7 +2,7 @@
 ghost use Rattle.vnfm_program.specs.Program.{Machine};
 
 use host_calls::HostFiles;
-use outside_edges::{Jobs, RealSite};
+use outside_edges::{Jobs, NoJobs, RealSite};
 use site_traits::{Clock, Courier, Orchestrator, Sink};
 use standard_streams::NullDevice;
 use std::marker::Model;
@@ -25,6 +25,8 @@ pub struct Machine<
     pub files: H,
     /// The journal's site, on which no file was opened yet, with the infrastructure's jobs.
     pub site: RealSite<H::File, J>,
+    /// The site of the file to which a journal is migrated, on which no file was opened yet. No job is begun there.
+    pub spare: RealSite<H::File, NoJobs>,
     /// The orchestrator.
     pub orchestrator: Q,
     /// The courier.
@@ -57,6 +59,7 @@ impl<
       device = m.device;
       files = m.files;
       site = m.site;
+      spare = m.spare;
       orchestrator = record { state = Q.state m.orchestrator; counts = Q.counts m.orchestrator };
       courier = carrier (C.state m.courier) (C.counts m.courier);
       clock = K.state m.clock;

@@ -6,15 +6,16 @@ ghost use Rattle.program_words.specs.Pages.{page_of};
 ghost use Rattle.program_words.specs.Reasons.{reason_of};
 ghost use Rattle.vnfm_commands.specs.Outside.{telling};
 ghost use Rattle.vnfm_program.specs.Program.{ObeysOrStarves, Performs, SpeaksOnError, SpeaksOnOutput, Starts, answers};
-ghost use Rattle.vnfm_program.specs.Program.{TellsIllegible, folder_of, is_undelivered};
+ghost use Rattle.vnfm_program.specs.Program.{TellsIllegible, is_undelivered};
 ghost use Rattle.vnfm_program.specs.Words.{are_legible, words_in};
 
 use crate::machine::Machine;
+use crate::opening::open_files;
 use crate::output::{explain, print, starve};
 use crate::words::{WordsFault, words_of};
 use host_calls::{HostFile, HostFiles, InStream, OutStream};
 use lcm_mouth::Mouth;
-use outside_edges::{FolderSync, Jobs, RealDoor, RealSite};
+use outside_edges::{Jobs, NoJobs, RealDoor, RealSite};
 use program_words::{Reason, page_of, reason_of};
 use site_traits::{Clock, Courier, Orchestrator, Sink};
 use standard_streams::{NullDevice, hold_streams};
@@ -30,13 +31,15 @@ use vnfm_cli::{Command, Settings, SettingsFault, run, settings};
 /// - Words that ask for a page have it printed to `lines`, and nothing else is done: 0, or 7 where it couldn't be put.
 /// - A command has the file at its path opened, by `files`, while `device` holds the numbers of the standard streams,
 ///   and is then obeyed by one run over that file, the mouth, the orchestrator, the courier and the clock: `run` says
-///   what it does there, and its status. `init` syncs the file's folder each time. Where the numbers can't be taken no
-///   file is opened, and the run is over `site` as it is.
-/// - Words that are no command open nothing, and are run over `site` as it is, which gives 2. So it is where the words
-///   can't be read, as where one isn't UTF-8, which is said then.
+///   what it does there, and its status. `init` syncs the file's folder each time. `migrate` has the file at the path of
+///   `--to` opened too, behind the other and under the same holding, and syncs its folder each time; every other command
+///   leaves `spare` as it is. Where the numbers can't be taken no file is opened, and the run is over the sites as they
+///   are.
+/// - Words that are no command open nothing, and are run over the sites as they are, which gives 2. So it is where the
+///   words can't be read, as where one isn't UTF-8, which is said then.
 /// - The run's line goes to `errors` for `once`, and to `lines` for all others. Behind the run nothing is called but
 ///   `errors`: it gets the one line that says why the run ended so, where there is something to say and memory for it.
-/// - Want of memory for the words, the mouth, the settings or to open the file is said on `errors`: 6.
+/// - Want of memory for the words, the mouth, the settings or to open a file is said on `errors`: 6.
 ///
 /// `arguments` are those of `env::args`: the program's name, and the words.
 /// Source: own rule, docs/FORMATS.md, "The program".
@@ -124,6 +127,7 @@ fn tell_illegible<
         alloc,
         &[],
         &mut machine.site,
+        &mut machine.spare,
         mouth,
         &mut machine.orchestrator,
         &mut machine.courier,
@@ -178,7 +182,7 @@ where
     }
 }
 
-/// Takes the numbers of the standard streams and opens the file that the settings name, and runs over it.
+/// Takes the numbers of the standard streams and opens the files that the settings name, and runs over them.
 fn hold_and_perform<
     N: NullDevice,
     H: HostFiles<Held = N::Held>,
@@ -215,27 +219,17 @@ where
         (record { mouth = Ok mouth.new; machine = machine.new }) }
 {
     match hold_streams(&mut machine.device) {
-        Ok(streams) => match machine.site.open(
+        Ok(streams) => match open_files(
             &mut machine.files,
             &streams,
-            settings.journal.as_str(),
-            folder_of(settings.command),
+            settings,
+            &mut machine.site,
+            &mut machine.spare,
         ) {
             Ok(()) => perform(alloc, words, settings.command, mouth, machine),
             Err(AllocError) => starve(&mut machine.errors),
         },
         Err(_) => perform(alloc, words, settings.command, mouth, machine),
-    }
-}
-
-/// When the folder of a command's file is synced. `init` says that the journal is made, so its name is on the disk. The
-/// other commands open what is there.
-fn folder_of(command: Command) -> FolderSync
-    ensures { result ≡ folder_of command }
-{
-    match command {
-        Command::Init => FolderSync::Always,
-        Command::Onboard | Command::Once | Command::Check => FolderSync::WhereMade,
     }
 }
 
@@ -274,7 +268,7 @@ fn perform<
 {
     match command {
         Command::Once => tell_on_error(alloc, words, mouth, machine),
-        Command::Init | Command::Onboard | Command::Check => {
+        Command::Init | Command::Onboard | Command::Check | Command::Migrate => {
             tell_on_output(alloc, words, mouth, machine)
         }
     }
@@ -316,6 +310,7 @@ fn tell_on_output<
         alloc,
         words,
         &mut machine.site,
+        &mut machine.spare,
         mouth,
         &mut machine.orchestrator,
         &mut machine.courier,
@@ -325,7 +320,7 @@ fn tell_on_output<
     explain(
         alloc,
         words,
-        reason(status, &machine.site, mouth),
+        reason(status, &machine.site, &machine.spare, mouth),
         &mut machine.errors,
     );
     status
@@ -367,6 +362,7 @@ fn tell_on_error<
         alloc,
         words,
         &mut machine.site,
+        &mut machine.spare,
         mouth,
         &mut machine.orchestrator,
         &mut machine.courier,
@@ -376,7 +372,7 @@ fn tell_on_error<
     explain(
         alloc,
         words,
-        reason(status, &machine.site, mouth),
+        reason(status, &machine.site, &machine.spare, mouth),
         &mut machine.errors,
     );
     status
@@ -386,11 +382,18 @@ fn tell_on_error<
 fn reason<F: HostFile + Drop, J: Jobs<F> + Drop, I: InStream, O: OutStream>(
     status: u8,
     site: &RealSite<F, J>,
+    spare: &RealSite<F, NoJobs>,
     mouth: &Mouth<RealDoor<I, O>>,
 ) -> Option<Reason>
-    ensures { result ≡ reason_of status site.now.why (is_undelivered mouth.now) mouth.now.account }
+    ensures { result ≡ reason_of status site.now.why spare.now.why (is_undelivered mouth.now) mouth.now.account }
 {
-    reason_of(status, site.why(), is_undelivered(mouth), mouth.account())
+    reason_of(
+        status,
+        site.why(),
+        spare.why(),
+        is_undelivered(mouth),
+        mouth.account(),
+    )
 }
 
 /// Whether a write on the connection failed.

@@ -12,8 +12,9 @@ returns c =
     let three = c.in_ok-arg-3.ensures.shape c.option-3.ensures.local ∙ ap₂ with_rule two c.option-3.ensures.rule in
     let four = c.in_ok-arg-4.ensures.shape c.option-4.ensures.local ∙ ap₂ with_rule three c.option-4.ensures.rule in
     let five = c.in_ok-arg-5.ensures.shape c.option-5.ensures.local ∙ ap₂ with_rule four c.option-5.ensures.rule in
-    let all : app_of c.in_ok-all.all ≡ reader = c.in_ok-all.ensures.shape c.option-6.ensures.local
-    ∙ ap₂ with_rule five c.option-6.ensures.rule in
+    let six = c.in_ok-arg-6.ensures.shape c.option-6.ensures.local ∙ ap₂ with_rule five c.option-6.ensures.rule in
+    let all : app_of c.in_ok-all.all ≡ reader = c.in_ok-all.ensures.shape c.option-7.ensures.local
+    ∙ ap₂ with_rule six c.option-7.ensures.rule in
     IfOk-weaker c.try_get_matches_from.result _ _
     (λ m has command pairs are. has_values (found_of m) (map (λ word. word.now) c.args.words.now) command pairs
     ((has (ap is_simple all ∙ reader_is_simple)).0 ∙ ap (λ a. matches_of a (map (λ word. word.now) c.args.words.now)) all) are)

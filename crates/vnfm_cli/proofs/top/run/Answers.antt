@@ -8,8 +8,9 @@ use Rattle.vnfm_cli.proofs.CheckLemmas.{left_alone, told_totals}
 use Rattle.vnfm_cli.proofs.DoorLemmas.{course_fails, fails_with}
 use Rattle.vnfm_cli.proofs.EndingLemmas.{is_status, put_told, seven_lost, status_told, told_by, told_or_yields, told_same, where_told}
 use Rattle.vnfm_cli.proofs.ExactLemmas.{bad_record_ending, complete_ending, door_cause, ends_good, no_journal_ending, taken_ending}
-use Rattle.vnfm_cli.proofs.ExactLemmas.{told_so, IsTold}
+use Rattle.vnfm_cli.proofs.ExactLemmas.{not_migrate, told_so, IsTold}
 use Rattle.vnfm_cli.proofs.HeadlineLemmas.{acknowledged, leaves_fresh, leaves_sound}
+use Rattle.vnfm_cli.proofs.MigrationLemmas.{migrates_as}
 use Rattle.vnfm_cli.proofs.top.run.Goals as goal
 
 pub returns-clause-promises : goal.returns-clause-promises
@@ -47,7 +48,7 @@ returns-clause-promises g c =
       totals = λ tells told are done m H small has.
           told_totals c.a_file_has_one_history.ensures _ told runs.0 c.args.words.now c.finish.result m H a b before after are
           runs.1.words_are (does.site tells) does.legal (rw (← runs.2) c.finish.ensures) done small has;
-      disk = disk_as _ _ _ _ c.obey-ending.ensures.disk
+      disk = λ other. disk_as _ _ _ _ (c.obey-ending.ensures.disk other)
           (λ is. at ∙ told_same _ _ 3 (ap status_of is) (omega arith))
           (λ is. where_told 3 (status_of e) _ (told_by e).1 (status_told put (status_of e) 3 (sym at ∙ is) (omega arith)));
       untouched_jobs = c.obey-ending.ensures.untouched_jobs;
@@ -63,30 +64,30 @@ returns-clause-promises g c =
             (status_told put (status_of e) 4 (sym at ∙ four) (omega arith)))
             failing;
         only = rw at (is_status c.finish.ensures.put _);
-        journal = λ tells five. (subst Told (status_told _ _ 5 (sym is ∙ five) (omega arith)) told).0 tells;
+        journal = λ tells other five. (subst Told (status_told _ _ 5 (sym is ∙ five) (omega arith)) told).0 tells other;
         no_journal = λ tells are none. subst (λ n. IsOrYields 5 n) (sym is)
             (told_or_yields _ _ 5 (omega arith) (no_journal_ending c.files_are_one_thing.ensures.unmade
             c.files_are_one_thing.ensures.foreign c.files_are_one_thing.ensures.headed c.a_legal_history_has_no_bad_record.ensures runs.0
             c.args.words.now a b are runs.1.words_are (does.site tells) none));
-        record_is_bad = λ tells eight. (subst Told (status_told _ _ 8 (sym is ∙ eight) (omega arith)) told).1 tells;
+        record_is_bad = λ tells other eight. (subst Told (status_told _ _ 8 (sym is ∙ eight) (omega arith)) told).1 tells other;
         bad_record = λ tells are n bad. subst (λ n. IsOrYields 8 n) (sym is)
             (told_or_yields _ _ 8 (omega arith) (bad_record_ending c.files_are_one_thing.ensures.unmade
             c.files_are_one_thing.ensures.foreign c.files_are_one_thing.ensures.headed c.a_legal_history_has_no_bad_record.ensures runs.0
             c.args.words.now a b n are runs.1.words_are does.legal (does.site tells) bad));
         full = λ nine. (subst Told (status_told _ _ 9 (sym is ∙ nine) (omega arith)) told).2;
         refused = λ ten. (subst Told (status_told _ _ 10 (sym is ∙ ten) (omega arith)) told).3;
-        taken = λ tells eleven. (subst Told (status_told _ _ 11 (sym is ∙ eleven) (omega arith)) told).4 tells;
+        taken = λ tells other eleven. (subst Told (status_told _ _ 11 (sym is ∙ eleven) (omega arith)) told).4 tells other;
         is_taken = λ tells m are not. subst (λ n. IsOrYields 11 n) (sym is)
             (told_or_yields _ _ 11 (omega arith) (taken_ending runs.0 c.args.words.now a b m are runs.1.words_are (does.site tells) not));
         sink = λ seven. lost_line _ _ _ c.finish.ensures.counts (seven_lost _ _ (sym at ∙ seven)).0;
       };
-      complete = λ tells command are start disk door sink.
+      complete = λ tells command other are start disk door sink.
           let P : ℕ → Type 0 = λ status. MayEndWith command status in
           subst P (sym (put_told _ _ _ is (λ lost. sink (lost_line _ _ _ c.finish.ensures.counts lost))))
           (complete_ending c.files_are_one_thing.ensures.unmade c.files_are_one_thing.ensures.foreign c.files_are_one_thing.ensures.headed
-          c.a_legal_history_has_no_bad_record.ensures _ tells command runs.0 c.args.words.now a b are start runs.1.words_are
+          c.a_legal_history_has_no_bad_record.ensures _ tells command runs.0 c.args.words.now a b other are start runs.1.words_are
           (does.site tells)
-          (λ fault. disk (one_fault _ _ (c.obey-ending.ensures.disk.rose (runs.2 ∙ fault))))
+          (λ fault. disk (one_fault _ _ ((c.obey-ending.ensures.disk (not_migrate command c.args.words.now other are)).rose (runs.2 ∙ fault))))
           (λ fault. door (door_cause command c.args.words.now _ _ _ are failing fault)) good);
     }
 
@@ -95,3 +96,18 @@ returns-clause-unasked g c = search rules
 
 pub returns-clause-unposted : goal.returns-clause-unposted
 returns-clause-unposted g c = search rules
+
+pub returns-clause-unheard : goal.returns-clause-unheard
+returns-clause-unheard g c = c.obey-ending.ensures.unheard
+
+pub returns-clause-untimed : goal.returns-clause-untimed
+returns-clause-untimed g c = c.obey-ending.ensures.untimed
+
+pub returns-clause-spared : goal.returns-clause-spared
+returns-clause-spared g c = c.obey-ending.ensures.spared
+
+pub returns-clause-migration : goal.returns-clause-migration
+returns-clause-migration g c =
+    let laws = c.old_files_have_one_history.ensures in
+    migrates_as laws.one laws.good laws.other laws.bad _ _ _ _ c.args.words.now c.finish.result _ _ _ _ c.obey-ending.ensures.moves
+    c.finish.ensures

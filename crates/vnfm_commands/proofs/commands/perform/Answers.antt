@@ -2,9 +2,9 @@
 -- opened.
 use Rattle.std.proofs.Common.{Err, Ok, ap, refl, ◌∙◌}
 use Rattle.std.proofs.lemmas.Result.{err_from_is_err_and}
-use Rattle.vnfm_commands.specs.Course.{counting, making, onboarding, onboarding_ending, opened, serving, unopened}
+use Rattle.vnfm_commands.specs.Course.{counting, making, migrating, onboarding, onboarding_ending, opened, serving, unopened}
 use Rattle.vnfm_commands.specs.Outside.{outside}
-use Rattle.vnfm_commands.proofs.DiskLemmas.{alike_of, disk_last, disk_of, synced, unonboarded_fails, unopened_fails}
+use Rattle.vnfm_commands.proofs.DiskLemmas.{alike_of, disk_last, disk_of, moved_fails, synced, unonboarded_fails, unopened_fails}
 use Rattle.vnfm_commands.proofs.RoundLemmas.{asks_nobody}
 use Rattle.vnfm_commands.proofs.RunLemmas.{does_activity, does_not_open, opening_of, rests_opened}
 use Rattle.vnfm_commands.specs.Words.{loads}
@@ -33,7 +33,7 @@ returns-in-Init-clause-does g c =
     )
 
 pub returns-in-Init-clause-disk : goal.returns-in-Init-clause-disk
-returns-in-Init-clause-disk g c = disk_of _ _ _ c.init.ensures.disk
+returns-in-Init-clause-disk g c = λ other. disk_of _ _ _ c.init.ensures.disk
 
 pub returns-in-Init-clause-untouched_jobs : goal.returns-in-Init-clause-untouched_jobs
 returns-in-Init-clause-untouched_jobs g c = λ other. alike_of _ _ _ c.init.ensures.disk
@@ -142,7 +142,7 @@ returns-in_err-onboard-in-Onboard-clause-does g c =
     )
 
 pub returns-in_err-onboard-in-Onboard-clause-disk : goal.returns-in_err-onboard-in-Onboard-clause-disk
-returns-in_err-onboard-in-Onboard-clause-disk g c =
+returns-in_err-onboard-in-Onboard-clause-disk g c = λ other.
     let err = err_from_is_err_and c.from_residual-in_err-onboard-in-Onboard.result
     c.from_residual-in_err-onboard-in-Onboard.ensures.1 in
     disk_last _ _ _ _
@@ -174,7 +174,7 @@ returns-in_ok-manager-in-Once-clause-does g c =
     )
 
 pub returns-in_ok-manager-in-Once-clause-disk : goal.returns-in_ok-manager-in-Once-clause-disk
-returns-in_ok-manager-in-Once-clause-disk g c =
+returns-in_ok-manager-in-Once-clause-disk g c = λ other.
     disk_last _ _ _ _
     (disk_of _ _ _ (synced ⊥ _ _ (c.in_ok-manager-in-Once.ensures.counts.stays (λ wrong. cc wrong)) (λ never. never)))
     c.make_rounds.ensures.disk
@@ -219,3 +219,31 @@ returns-in_ok-manager-in-Check-clause-does g c =
           c.in_ok-manager-in-Check.ensures.told,
       ap (λ (t : Totals). Ok (Counted t)) (c.count_all.ensures start.0 start.1.keeps),
     )
+
+pub returns-in-Migrate-clause-does : goal.returns-in-Migrate-clause-does
+returns-in-Migrate-clause-does g c =
+    let moved = c.move_journal.ensures in
+    let leaves = c.works_add_up.ensures.jobs c.args.site.now c.move_journal.new.site c.move_journal.new.site in
+    let behind = outside (g.S.Site.state c.move_journal.new.site) (g.S.Site.counts c.move_journal.new.site) c.args.mouth.now
+    (g.O.Orchestrator.state c.args.orchestrator.now) (g.O.Orchestrator.counts c.args.orchestrator.now)
+    (g.C.Courier.state c.args.courier.now) (g.C.Courier.counts c.args.courier.now) (g.K.Clock.state c.args.clock.now) in (
+      migrating moved.0,
+      c.in-Migrate.is,
+      record {
+        legal = tt;
+        site = moved.2.reads;
+        saved = λ told. tt;
+        jobs = λ told. (leaves told (moved.2.reads told)).0;
+        counted = λ told. tt;
+        beside = record {
+          peers = refl;
+          asks = asks_nobody _ _ _ behind refl refl (λ told. (leaves told (moved.2.reads told)).0)
+              (moved_fails moved.0 _ _ moved.2.first);
+        };
+        told = refl;
+      },
+      moved.1,
+    )
+
+pub returns-in-Migrate-clause-untouched_jobs : goal.returns-in-Migrate-clause-untouched_jobs
+returns-in-Migrate-clause-untouched_jobs g c = λ other. alike_of _ _ _ (moved_fails c.move_journal.ensures.0 _ _ c.move_journal.ensures.2.first)

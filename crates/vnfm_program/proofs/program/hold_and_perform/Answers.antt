@@ -1,22 +1,14 @@
--- The file was opened, or the numbers of the streams couldn't be taken; the run went over what was opened.
+-- The files were opened, or the numbers of the streams couldn't be taken; the run went over what was opened.
 use Rattle.std.proofs.Common.{Some, refl, inl, inr, rules}
-use Rattle.vnfm_program.proofs.Courses.{held_as, left_at, obeyed, sought_as}
+use Rattle.vnfm_program.proofs.Courses.{obeyed}
 use Rattle.vnfm_program.proofs.program.hold_and_perform.Goals as goal
 
-pub returns-in-Ok-open : goal.returns-in-Ok-open
-returns-in-Ok-open g c = rw (← c.machine.view_is) (
+pub returns-in-Ok-open_files : goal.returns-in-Ok-open_files
+returns-in-Ok-open_files g c = rw (← c.machine.view_is) (
     inl (obeyed _ _ (Some c.args.settings.now) _ _ _ _ _ _ c.requires
     (inl (record {
-      asks = record {
-        streams = λ tells. (c.in-Ok.ensures tells).held;
-        seeks = λ tells. sought_as c.args.settings.now _ _ _ _ _ c.as_str.ensures.value c.folder_of.ensures
-            (c.in-Ok-open.ensures.seeks tells);
-        stands = λ tells. left_at c.args.settings.now _ _ _ c.as_str.ensures.value (c.open.ensures.stands tells);
-      };
-      file = λ tells file_tells. held_as _ _ c.args.settings.now _ _ _ _ _ c.as_str.ensures.value c.folder_of.ensures
-          (c.in-Ok-open.ensures.had tells file_tells);
-      why = c.in-Ok-open.ensures.why;
-      counts = c.open.ensures.counts;
+      streams = λ tells. (c.in-Ok.ensures tells).held;
+      opens = c.in-Ok-open_files.ensures.opened;
       kept = refl;
     }))
     refl refl c.perform.ensures))
@@ -26,12 +18,8 @@ returns-in-Ok g c = rw (← c.machine.view_is) (
     inr (inr (record {
       settings = c.args.settings.now;
       set = c.requires;
-      asks = record {
-        streams = λ tells. (c.in-Ok.ensures tells).held;
-        seeks = λ tells. sought_as c.args.settings.now _ _ _ _ _ c.as_str.ensures.value c.folder_of.ensures
-            (c.in-Err-open.ensures.seeks tells);
-        stands = λ tells. left_at c.args.settings.now _ _ _ c.as_str.ensures.value (c.open.ensures.stands tells);
-      };
+      streams = λ tells. (c.in-Ok.ensures tells).held;
+      opening = c.in-Err-open_files.ensures.starved;
       starves = c.starve.ensures;
       kept = search rules;
     })))

@@ -8,7 +8,11 @@ returns g c = rw (← c.machine.view_is) (inl (record {
   after = _;
   has_mouth = c.in-Ok.is;
   mouth = refl;
-  promises = c.run-status.ensures.promises;
+  runs = record {
+    promises = c.run-status.ensures.promises;
+    spared = c.run-status.ensures.spared;
+    migration = c.run-status.ensures.migration;
+  };
   explains = c.explain.ensures;
   kept = record { device = refl; files = refl };
 }))

@@ -6,7 +6,11 @@ use Rattle.vnfm_program.proofs.program.tell_on_error.Goals as goal
 pub returns : goal.returns
 returns g c = rw (← c.machine.view_is) (record {
   behind = output_of g.E.Sink.state g.E.Sink.counts c.run-status.new.out;
-  promises = c.run-status.ensures.promises;
+  runs = record {
+    promises = c.run-status.ensures.promises;
+    spared = c.run-status.ensures.spared;
+    migration = c.run-status.ensures.migration;
+  };
   explains = rw c.reason.ensures at c.explain.ensures;
   silent = refl;
   kept = record { device = refl; files = refl };

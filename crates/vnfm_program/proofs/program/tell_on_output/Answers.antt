@@ -4,7 +4,11 @@ use Rattle.vnfm_program.proofs.program.tell_on_output.Goals as goal
 
 pub returns : goal.returns
 returns g c = rw (← c.machine.view_is) (record {
-  promises = c.run-status.ensures.promises;
+  runs = record {
+    promises = c.run-status.ensures.promises;
+    spared = c.run-status.ensures.spared;
+    migration = c.run-status.ensures.migration;
+  };
   explains =
       rw c.reason.ensures at c.explain.ensures;
   kept = record { device = refl; files = refl };
