@@ -156,7 +156,7 @@ for piece in 1, 7, WHOLE:
         "streams go on behind short and interrupted calls, in pieces of %d" % piece,
         *[
             starts(ONCE, 0, "", DONE, file=JOURNAL, input=CREATE, told=CREATED, left=JOURNAL_1, wrong=wrong(call, "Interrupted", *calls, piece))
-            for call, calls in [("", (1, 1)), ("receive", (1, 2)), ("receive", (2, 4)), ("send", (1, 3)), ("send", (2, 2))]
+            for call, calls in [("regular", (0, 0)), ("receive", (1, 2)), ("receive", (2, 4)), ("send", (1, 3)), ("send", (2, 2))]
         ],
         starts(ONBOARD, 0, IS_ONBOARDED, "", file=MADE, input=DESCRIPTOR, left=JOURNAL, wrong=wrong("receive", "Interrupted", 1, 3, piece)),
     )
@@ -266,7 +266,7 @@ run(
         for told, it in [
             *[("", wrong("send")), ("HTTP/1.1 201", wrong("send", "Other", 2, 2, 12))],
             # A write that takes nothing is one that fails.
-            ("", wrong("", piece=0)),
+            ("", wrong("regular", first=0, piece=0)),
         ]
     ],
 )

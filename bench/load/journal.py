@@ -1,7 +1,9 @@
 #!/usr/bin/env python3
 """Writes a journal of so many events, after docs/JOURNAL.md and docs/EVENTS.md.
 
-usage: journal.py SHAPE EVENTS [NUMBER]     to standard output
+usage: journal.py SHAPE EVENTS [NUMBER [FORMAT]]     to standard output
+
+Each event is a batch of its own, of format 2, or a record of format 1.
 
 Its history is legal: one descriptor with one kind of machine is onboarded, and then
 
@@ -50,7 +52,7 @@ CREATE, REMOVE, START, STOP = range(4)
 DONE = u8(0) + name("server")
 BROKEN = u8(1) + u32(5)
 NOTICED = {CREATED, DELETED, ASKED, MOVED}
-HEADER = b"VNFM-LCM" + u8(2) + u32(MANAGER) + bytes(19)
+HEADER = {form: b"VNFM-LCM" + u8(form) + u32(MANAGER) + bytes(19) for form in (1, 2)}
 
 
 class Ends(Exception):
@@ -111,8 +113,9 @@ def near(shape):
 class Journal:
     """How many events were written, and how many were made of each kind that is numbered."""
 
-    def __init__(self, out, wanted, machines=1):
+    def __init__(self, out, wanted, machines=1, form=2):
         self.out = out
+        self.form = form
         self.wanted = wanted
         self.events = 0
         self.instance = 0
@@ -123,7 +126,7 @@ class Journal:
         self.stop = u8(5) + u8(1) + u8(2) + changes(4, STOP, machines)
         self.terminate = u8(6) + u8(1) + none + changes(6, REMOVE, machines)
         self.machines = machines
-        out.write(HEADER)
+        out.write(HEADER[form])
         self.onboard(1)
 
     def put(self, kind, fields):
@@ -131,7 +134,8 @@ class Journal:
         if self.events == self.wanted:
             raise Ends
         length = 9 + len(fields)
-        self.out.write(u8(1) + u32(4 + length) + u32(length) + u8(kind) + u64(FIRST_MOMENT + self.events) + fields)
+        around = u32(4 + length) if self.form == 2 else b""
+        self.out.write(u8(1) + around + u32(length) + u8(kind) + u64(FIRST_MOMENT + self.events) + fields)
         self.events += 1
         if self.told and kind in NOTICED:
             place = self.events
@@ -330,10 +334,10 @@ SHAPES = {
 }
 
 
-def write(out, shape, events, number=1):
-    """Writes the journal of this shape with so many events."""
+def write(out, shape, events, number=1, form=2):
+    """Writes the journal of this shape with so many events, in this format."""
     try:
-        SHAPES[shape](Journal(out, events, number if shape in ("large", "asked", "healed") else 1), number)
+        SHAPES[shape](Journal(out, events, number if shape in ("large", "asked", "healed") else 1, form), number)
     except Ends:
         out.write(u8(0))
 
