@@ -68,21 +68,21 @@ LooksAs tag (look.Broken code) before after = phase_of tag after ≡ Some (Broke
 LooksAs tag look.Aborted before after = phase_of tag after ≡ Some Aborted
 LooksAs tag look.Failed before after = Unit {0}
 
--- What the calls on jobs answered: the codes of the begins that were refused, the tags of which an abort was asked, and
--- the looks that were answered, each the latest first.
+-- What the calls on jobs answered: the begins that were taken or refused, with the codes of the latter, the tags of
+-- which an abort was asked, and the looks that were answered, each the latest first.
 pub record Answered : Type 0 where
-  pub refused : List ℕ
+  pub begins : List BeginAnswer
   pub aborted : List Tag
   pub looks : List (Tag × LookAnswer)
 
 -- no call on jobs was answered
 abbrev pub unanswered : Answered
-unanswered = record { refused = []; aborted = []; looks = [] }
+unanswered = record { begins = []; aborted = []; looks = [] }
 
 -- the answers with that to a begin
 abbrev pub begin_answered : BeginAnswer → Answered → Answered
-begin_answered (begin.Refused code) l = record l { refused = code ∷ l.refused }
-begin_answered _ l = l
+begin_answered begin.Failed l = l
+begin_answered answer l = record l { begins = answer ∷ l.begins }
 
 -- the answers with that to a look at the job of this tag
 abbrev pub look_answered : Tag → LookAnswer → Answered → Answered
