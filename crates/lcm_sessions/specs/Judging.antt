@@ -1,9 +1,10 @@
 -- What is known of a descriptor that was judged and may be recorded.
 use Rattle.std.specs.Prelude.{◌≡◌, ℕ, List, Result, Ok, Err}
+use Rattle.executor.specs.Managed.{MayRecord}
 use Rattle.lcm_events.specs.declared.descriptor.Vnfd.{Vnfd}
 use Rattle.lcm_events.specs.declared.events.Event.{Event}
 use Rattle.lcm_model.specs.Allowed.{MayOnboard}
-use Rattle.lcm_sessions.specs.Verdict.{refused, new_verdict, room_verdict, verdict}
+use Rattle.lcm_sessions.specs.Verdict.{onboarding, refused, new_verdict, room_verdict, verdict}
 use Rattle.lcm_sessions.specs.declared.answer.OnboardFault.{OnboardFault}
 use Rattle.lcm_sessions.specs.declared.answer.OnboardFault.TheVariants as fault
 
@@ -22,3 +23,7 @@ Judges H bytes (Ok vnfd) = ((saved now : ℕ) → verdict saved H now bytes ≡ 
 Judges H bytes (Err (fault.Refused why)) = (saved now : ℕ) → verdict saved H now bytes ≡ refused why
 Judges H bytes (Err fault.Memory) = Unit {0}
 Judges H bytes (Err other) = ⊥
+
+-- the event of a descriptor that may be onboarded may be recorded: it keeps the format's rules (own rule)
+abbrev pub OnboardingsMayBeRecorded : Type 0
+OnboardingsMayBeRecorded = (m now : ℕ) (H : List Event) (d : Vnfd) → MayOnboard H d → MayRecord m H (onboarding now d)

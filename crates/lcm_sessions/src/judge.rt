@@ -6,7 +6,7 @@ ghost use Rattle.executor.specs.Work.{Works, recorded};
 ghost use Rattle.lcm_events.specs.declared.events.Event.{Event};
 ghost use Rattle.lcm_events.specs.declared.events.EventKind.TheVariants.{Onboarded as OnboardedKind};
 ghost use Rattle.lcm_model.specs.Descriptors.{IsValid};
-ghost use Rattle.lcm_sessions.specs.Judging.{Judges, JudgesNew};
+ghost use Rattle.lcm_sessions.specs.Judging.{Judges, JudgesNew, OnboardingsMayBeRecorded};
 ghost use Rattle.lcm_sessions.specs.Onboarding.{ended_by, judged_answer, worked};
 ghost use Rattle.lcm_sessions.specs.Verdict.{onboarded, verdict};
 ghost use Rattle.journal_records.specs.declared.limits.TheConstants.{MAX_FILE};
@@ -123,3 +123,11 @@ fn onboarding(moment: Moment, vnfd: Vnfd) -> Event
         kind: EventKind::Onboarded(vnfd),
     }
 }
+
+/// That the event of a descriptor that may be onboarded may be recorded: it keeps the format's rules. It does nothing,
+/// and its contract is the law.
+///
+/// Source: own rule, docs/EVENTS.md.
+pub fn onboardings_may_be_recorded()
+    ensures { OnboardingsMayBeRecorded }
+{}

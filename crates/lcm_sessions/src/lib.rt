@@ -10,5 +10,6 @@ mod session;
 
 pub use answer::{DescriptorRefusal, OnboardFault, Onboarded};
 pub use hearing::onboard;
+pub use judge::onboardings_may_be_recorded;
 pub use limits::limits_are_fixed;
 pub use session::{Closed, answer_session};

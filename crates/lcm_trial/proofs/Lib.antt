@@ -1,0 +1,9 @@
+mod AbortLemmas
+mod OutsideLemmas
+mod DeedLemmas
+mod RoomLemmas
+mod TurnLemmas
+mod CountLemmas
+mod BeginLemmas
+mod AskLemmas
+mod TrialLemmas

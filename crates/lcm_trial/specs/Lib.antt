@@ -1,0 +1,7 @@
+pub mod Draws
+pub mod Wishes
+pub mod Requests
+pub mod Stages
+pub mod Beginning
+pub mod Trial
+pub mod Playing
