@@ -186,7 +186,7 @@ ASKS = {
 
 def numbered(parts, kind, live):
     """The number of what a path names, where that is live."""
-    number = next((it for it in range(1, 300) if history.identifier(it, kind) == parts[1]), None)
+    number = next((it for it in range(1, 2_000) if history.identifier(it, kind) == parts[1]), None)
     if number is None or not live(number):
         raise Refused(404, "no such " + ("instance", "occurrence", "subscription")[kind - 1])
     return number

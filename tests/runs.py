@@ -28,7 +28,7 @@ ORDER = (
     *["run_texts", "runs_commands", "runs_sessions", "runs_routes", "runs_instantiations", "runs_descriptors", "runs_tasks", "runs_forward"],
     *["runs_rollbacks", "runs_cancels", "runs_stops", "runs_windows", "runs_command_line", "runs_turns", "runs_histories", "runs_journals", "runs_plans"],
     *["runs_grants", "runs_words", "runs_edges", "runs_framing", "run_operations", "runs_asks", "runs_scaling", "runs_healing", "runs_powers", "runs_terminations", "runs_troubles", "runs_lives"],
-    *["runs_subscriptions", "runs_notices", "runs_deliveries", "runs_migrations", "runs_wrong"],
+    *["runs_subscriptions", "runs_notices", "runs_deliveries", "runs_migrations", "runs_serving", "runs_wrong"],
 )
 TOP = pathlib.Path(__file__).resolve().parent.parent
 STDIN, STDOUT = (TOP / "crates" / "lcm_cases" / name for name in ("stdin", "stdout"))

@@ -82,15 +82,17 @@ run(
     ["page", ["once", "--help"], "vnfm once --journal PATH [OPTION..]    answer the requests on standard input"],
     ["page", ["check", "--help"], "vnfm check --journal PATH    count what the journal at PATH has, and change nothing\n"],
     ["page", ["migrate", "--help"], "vnfm migrate --journal PATH --to PATH    make a journal of the present format of one of format 1\n"],
+    ["page", ["serve", "--help"], "vnfm serve --journal PATH --listen ADDR --em-listen ADDR [OPTION..]\n"],
+    ["page", ["trial", "--help"], "vnfm trial --start N --count N    play requests drawn from a number over objects in memory\n"],
     ["page", ["--version"], "vnfm 0.1.0\n"],
     ["page", ["--version", "more"], ""],
 )
 
 
-def set_by(words, command, journal, manager=0, role="Orchestrator", rounds=0, orchestrator="", vim="", to=""):
-    """What these words set: nothing sets addresses to listen on, or a trial."""
-    texts = '"%s" %d %s %d "" "" "%s" "%s" "%s"' % (journal, manager, role, rounds, orchestrator, vim, to)
-    return ["set", words, "%s %s 0 0" % (command, texts)]
+def set_by(words, command, journal, manager=0, role="Orchestrator", rounds=0, orchestrator="", vim="", to="", at=("", ""), start=0, count=0):
+    """What these words set."""
+    texts = '"%s" %d %s %d "%s" "%s" "%s" "%s" "%s"' % (journal, manager, role, rounds, *at, orchestrator, vim, to)
+    return ["set", words, "%s %s %d %d" % (command, texts, start, count)]
 
 
 run(
@@ -135,17 +137,12 @@ def not_understood(word, *words):
     return no_command('"%s" isn\'t understood' % word, *words)
 
 
-def not_built(name, *words):
-    """The usage line names this command, which isn't built yet."""
-    line = 'vnfm: "%s" isn\'t built yet; vnfm --help says which commands are\n' % name
-    return [explained([name, *words], 2, line), ["set", [name, *words], "usage"]]
-
-
 def stands_twice(word, *words):
     return no_command('"%s" stands twice' % word, *words)
 
 
 NUMBER, ROLE, TEXT = "a number from 0 to 4294967295, in at most 20 digits", "orchestrator or em", "a word that doesn't begin with -"
+ADDRESS, START, COUNT = "an address and port", "a number from 0 to %d, in at most 20 digits" % (2**64 - 1), "a number from 0 to 2000, in at most 20 digits"
 
 
 def no_value(word, option, wanted, *words):
@@ -184,13 +181,71 @@ run(
     # It is an option of no other command.
     *[it for words in (ONCE, ["check", *AT_J], ["onboard", *AT_J], ["init", *AT_J]) for it in not_understood("--to", *words, "--to", "k")],
 )
+SERVE = ["serve", *AT_J, "--listen", "h:1", "--em-listen", "h:2"]
+
+
+def serve_sets(words, rounds=4_294_967_295, orchestrator="", vim="", at=("h:1", "h:2")):
+    return set_by(words, "Serve", "j", rounds=rounds, orchestrator=orchestrator, vim=vim, at=at)
+
+
+run(
+    "serve sets a path and two addresses, and makes rounds without end where nothing else is said",
+    serve_sets(SERVE),
+    serve_sets(["serve", "--em-listen", "h:2", "--listen", "h:1", *AT_J]),
+    serve_sets([*SERVE, "--rounds", "0"], 0),
+    serve_sets([*SERVE, "--rounds", "3", "--vim", "v:1", "--orchestrator", "http://o:1/x"], 3, "http://o:1/x", "v:1"),
+    serve_sets(["serve", *AT_J, "--listen", "localhost", "--em-listen", "localhost"], at=("localhost", "localhost")),
+    *no_command("--journal PATH is missing", "serve"),
+    *no_command("--journal PATH is missing", "serve", *SERVE[3:]),
+    *no_command("--listen ADDR is missing", "serve", *AT_J, "--em-listen", "h:2"),
+    *no_command("--em-listen ADDR is missing", *SERVE[:5]),
+    *no_command('"--listen" has no value', "serve", *AT_J, "--listen"),
+    *no_value("", "--listen", ADDRESS, "serve", *AT_J, "--listen", "", "--em-listen", "h:2"),
+    *no_value("", "--em-listen", ADDRESS, *SERVE[:5], "--em-listen", ""),
+    *no_value("-h:1", "--listen", ADDRESS, "serve", *AT_J, "--listen", "-h:1", "--em-listen", "h:2"),
+    *no_value("4294967296", "--rounds", NUMBER, *SERVE, "--rounds", "4294967296"),
+    *not_understood("--role", *SERVE, "--role", "em"),
+    *not_understood("--manager", *SERVE, "--manager", "7"),
+    *stands_twice("--listen", *SERVE, "--listen", "h:3"),
+    *not_understood("Serve", "Serve", *SERVE[1:]),
+    # They are options of no other command.
+    *[it for words in (ONCE, MIGRATE, ["check", *AT_J]) for it in not_understood("--em-listen", *words, "--em-listen", "h:1")],
+)
+MOST_START = "18446744073709551615"
+run(
+    "trial sets a start and a count, and names no file",
+    set_by(["trial", "--start", "1", "--count", "100"], "Trial", "", start=1, count=100),
+    set_by(["trial", "--count", "0", "--start", "0"], "Trial", ""),
+    set_by(["trial", "--count", "2000", "--start", MOST_START], "Trial", "", start=int(MOST_START), count=2000),
+    set_by(["trial", "--count", "02000", "--start", "007"], "Trial", "", start=7, count=2000),
+    *no_command("--start N is missing", "trial"),
+    *no_command("--start N is missing", "trial", "--count", "1"),
+    *no_command("--count N is missing", "trial", "--start", "1"),
+    *no_value("2001", "--count", COUNT, "trial", "--start", "1", "--count", "2001"),
+    *no_value("18446744073709551616", "--start", START, "trial", "--start", "18446744073709551616", "--count", "1"),
+    *no_value("", "--start", START, "trial", "--start", "", "--count", "1"),
+    *no_value("1.0", "--count", COUNT, "trial", "--start", "1", "--count", "1.0"),
+    *no_value("-1", "--start", START, "trial", "--start", "-1", "--count", "1"),
+    *not_understood("--journal", "trial", *AT_J, "--start", "1", "--count", "1"),
+    *stands_twice("--count", "trial", "--start", "1", "--count", "1", "--count", "1"),
+    *[it for words in (ONCE, MIGRATE, SERVE) for it in not_understood("--start", *words, "--start", "1")],
+)
+run(
+    "a run of serve and one of trial are explained in words of their own",
+    explained(SERVE, 0, "", undelivered=True),
+    explained(SERVE, 4, "vnfm: no connection can be had at the addresses of --listen and --em-listen\n"),
+    explained(SERVE, 3, 'vnfm: "j": another manager holds its lock\n', "locked"),
+    explained(SERVE, 9, 'vnfm: "j": it has no room for what was to be recorded\n'),
+    explained(ONCE, 4, "vnfm: standard input couldn't be read\n"),
+    explained(["trial", "--start", "1", "--count", "1"], 0, ""),
+    explained(["trial", "--start", "1", "--count", "1"], 3, "vnfm: the journal of this trial would be longer than its room of 67108864 bytes\n"),
+    explained(["trial", "--start", "1", "--count", "1"], 6, "vnfm: there was no memory\n"),
+)
 run(
     "words that are no command are told apart",
     *no_command("a command is missing"),
     *not_understood("--journal", *AT_J, "once"),
     *not_understood("Once", "Once", *AT_J),
-    *not_built("serve", *AT_J),
-    *not_built("trial", "--start", "1", "--count", "1"),
     *not_understood("--", "--", *ONCE),
     *no_command("--journal PATH is missing", "once"),
     *no_command("--journal PATH is missing", "once", "--rounds", "2"),

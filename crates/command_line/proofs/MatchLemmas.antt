@@ -22,17 +22,19 @@ use Rattle.command_line.specs.Found.{HasValues}
 use Rattle.command_line.specs.Words.{Pair, Word, are_of, command_named, fits, given, is_option, needed_of, options_of, pairs_of, parted}
 use Rattle.command_line.specs.Words.{stand_once, stands, takes}
 use Rattle.command_line.specs.declared.options.Command.{Command}
-use Rattle.command_line.specs.declared.options.Command.TheVariants.{Check, Init, Migrate, Onboard, Once}
+use Rattle.command_line.specs.declared.options.Command.TheVariants.{Check, Init, Migrate, Onboard, Once, Serve, Trial}
 
 -- what `clap` is told of an option, and of the words
 abbrev pub option_rule : Word → Word → Rule
 option_rule name default = record (new_rule name) { long = Some name; defaults = default ∷ [] }
 
 abbrev pub reader : App
-reader = with_rule (with_rule (with_rule (with_rule (with_rule (with_rule (with_rule (new_app (codes "vnfm"))
-    (option_rule (codes "journal") [])) (option_rule (codes "manager") (codes "0")))
-    (option_rule (codes "role") (codes "orchestrator"))) (option_rule (codes "rounds") (codes "1")))
-    (option_rule (codes "orchestrator") [])) (option_rule (codes "vim") [])) (option_rule (codes "to") [])
+reader = with_rule (with_rule (with_rule (with_rule (with_rule (with_rule (with_rule (with_rule (with_rule (with_rule
+    (with_rule (new_app (codes "vnfm")) (option_rule (codes "journal") [])) (option_rule (codes "manager") (codes "0")))
+    (option_rule (codes "role") (codes "orchestrator"))) (option_rule (codes "rounds") []))
+    (option_rule (codes "orchestrator") [])) (option_rule (codes "vim") [])) (option_rule (codes "to") []))
+    (option_rule (codes "listen") [])) (option_rule (codes "em-listen") [])) (option_rule (codes "start") (codes "0")))
+    (option_rule (codes "count") (codes "0"))
 
 -- what it makes of that
 abbrev rules : List Rule
@@ -45,19 +47,25 @@ reader_is_simple = refl
 -- an option of a command
 abbrev IsKnown : Word → Type 0
 IsKnown o = (o ≡ codes "--journal") ⊎ ((o ≡ codes "--manager") ⊎ ((o ≡ codes "--role")
-    ⊎ ((o ≡ codes "--rounds") ⊎ ((o ≡ codes "--orchestrator") ⊎ ((o ≡ codes "--vim") ⊎ (o ≡ codes "--to"))))))
+    ⊎ ((o ≡ codes "--rounds") ⊎ ((o ≡ codes "--orchestrator") ⊎ ((o ≡ codes "--vim") ⊎ ((o ≡ codes "--to")
+    ⊎ ((o ≡ codes "--listen") ⊎ ((o ≡ codes "--em-listen") ⊎ ((o ≡ codes "--start") ⊎ (o ≡ codes "--count"))))))))))
 
 -- what holds of each option holds of a known one
 known_by : (P : Word → Type 0) → P (codes "--journal") → P (codes "--manager") → P (codes "--role") → P (codes "--rounds")
-    → P (codes "--orchestrator") → P (codes "--vim") → P (codes "--to") → (o : Word) → IsKnown o → P o
-known_by P journal manager role rounds orchestrator vim to o known = elim known [
+    → P (codes "--orchestrator") → P (codes "--vim") → P (codes "--to") → P (codes "--listen") → P (codes "--em-listen")
+    → P (codes "--start") → P (codes "--count") → (o : Word) → IsKnown o → P o
+known_by P journal manager role rounds orchestrator vim to listen em_listen start count o known = elim known [
   | inl e ↦ subst P (sym e) journal
   | inr (inl e) ↦ subst P (sym e) manager
   | inr (inr (inl e)) ↦ subst P (sym e) role
   | inr (inr (inr (inl e))) ↦ subst P (sym e) rounds
   | inr (inr (inr (inr (inl e)))) ↦ subst P (sym e) orchestrator
   | inr (inr (inr (inr (inr (inl e))))) ↦ subst P (sym e) vim
-  | inr (inr (inr (inr (inr (inr e))))) ↦ subst P (sym e) to
+  | inr (inr (inr (inr (inr (inr (inl e)))))) ↦ subst P (sym e) to
+  | inr (inr (inr (inr (inr (inr (inr (inl e))))))) ↦ subst P (sym e) listen
+  | inr (inr (inr (inr (inr (inr (inr (inr (inl e)))))))) ↦ subst P (sym e) em_listen
+  | inr (inr (inr (inr (inr (inr (inr (inr (inr (inl e))))))))) ↦ subst P (sym e) start
+  | inr (inr (inr (inr (inr (inr (inr (inr (inr (inr e))))))))) ↦ subst P (sym e) count
 ]
 
 -- a held state in which the option waits for its value, and one in which it has it
@@ -74,6 +82,7 @@ waiting_for o h = record (walk_from (met o h)) { waiting = option (drop 2 o) }
 name_walked : (h : Held) (o : Word) → IsKnown o → walked rules [] (walk_from h) o ≡ waiting_for o h
 unfolding clap_on_literals
 name_walked h = known_by (λ o. walked rules [] (walk_from h) o ≡ waiting_for o h) refl refl refl refl refl refl refl
+    refl refl refl refl
 
 -- a word that is no option's name looks like none
 no_option : (v : Word) → is_option v ≡ false → (bytes_eq v (codes "--") ≡ false) × (long_of v ≡ None) × (short_of v ≡ None)
@@ -86,9 +95,11 @@ value_walked : (h : Held) (v : Word) → is_option v ≡ false → (o : Word) �
 unfolding clap_on_literals
 value_walked h v plain =
     let it = no_option v plain in
-    known_by (λ o. walked rules [] (waiting_for o h) v ≡ walk_from (had (o, v) h)) (rw (it.0, it.1, it.2) refl) (rw (it.0, it.1, it.2) refl)
-    (rw (it.0, it.1, it.2) refl)
-    (rw (it.0, it.1, it.2) refl) (rw (it.0, it.1, it.2) refl) (rw (it.0, it.1, it.2) refl) (rw (it.0, it.1, it.2) refl)
+    known_by (λ o. walked rules [] (waiting_for o h) v ≡ walk_from (had (o, v) h))
+    (rw (it.0, it.1, it.2) refl) (rw (it.0, it.1, it.2) refl) (rw (it.0, it.1, it.2) refl)
+    (rw (it.0, it.1, it.2) refl) (rw (it.0, it.1, it.2) refl) (rw (it.0, it.1, it.2) refl)
+    (rw (it.0, it.1, it.2) refl) (rw (it.0, it.1, it.2) refl) (rw (it.0, it.1, it.2) refl)
+    (rw (it.0, it.1, it.2) refl) (rw (it.0, it.1, it.2) refl)
 
 -- the words of these pairs
 abbrev spelled : List Pair → List Word
@@ -149,7 +160,9 @@ settled_row rows k v o known = known_by (λ o. has_row (drop 2 o) rows ≡ false
     → (settled rules (record { rows = rows; pending = Some (drop 2 o, v ∷ []); skip = k })).rows ≡ rows ++ row (o, v) ∷ [])
     (with_row rows v (codes "journal")) (with_row rows v (codes "manager")) (with_row rows v (codes "role"))
     (with_row rows v (codes "rounds"))
-    (with_row rows v (codes "orchestrator")) (with_row rows v (codes "vim")) (with_row rows v (codes "to")) o known
+    (with_row rows v (codes "orchestrator")) (with_row rows v (codes "vim")) (with_row rows v (codes "to"))
+    (with_row rows v (codes "listen")) (with_row rows v (codes "em-listen")) (with_row rows v (codes "start"))
+    (with_row rows v (codes "count")) o known
 
 -- no pair has a row yet
 abbrev AreNew : List Row → List Pair → Type 0
@@ -158,7 +171,7 @@ AreNew rows (p ∷ ps) = (has_row (drop 2 p.0) rows ≡ false) × AreNew rows ps
 
 -- a known option is its name behind `--`
 dashes : (o : Word) → IsKnown o → o ≡ 45 ∷ 45 ∷ drop 2 o
-dashes = known_by (λ o. o ≡ 45 ∷ 45 ∷ drop 2 o) refl refl refl refl refl refl refl
+dashes = known_by (λ o. o ≡ 45 ∷ 45 ∷ drop 2 o) refl refl refl refl refl refl refl refl refl refl refl
 
 same_name : (o q : Word) → IsKnown o → IsKnown q → bytes_eq (drop 2 o) (drop 2 q) ≡ bytes_eq o q
 same_name o q known other = sym (ap₂ bytes_eq (dashes o known) (dashes q other))
@@ -345,17 +358,10 @@ options_known : (c : Command) → AllKnown (options_of c)
 options_known Init = (inl refl, (inr (inl refl), tt))
 options_known Onboard = (inl refl, tt)
 options_known Check = (inl refl, tt)
-options_known Once = (
-  inl refl,
-  (
-    inr (inr (inl refl)),
-    (
-      inr (inr (inr (inl refl))),
-      (inr (inr (inr (inr (inl refl)))), (inr (inr (inr (inr (inr (inl refl))))), tt)),
-    ),
-  ),
-)
-options_known Migrate = (inl refl, (inr (inr (inr (inr (inr (inr refl))))), tt))
+options_known Once = (inl refl, (inr (inr (inl refl)), (inr (inr (inr (inl refl))), (inr (inr (inr (inr (inl refl)))), (inr (inr (inr (inr (inr (inl refl))))), tt)))))
+options_known Serve = (inl refl, (inr (inr (inr (inr (inr (inr (inr (inl refl))))))), (inr (inr (inr (inr (inr (inr (inr (inr (inl refl)))))))), (inr (inr (inr (inl refl))), (inr (inr (inr (inr (inl refl)))), (inr (inr (inr (inr (inr (inl refl))))), tt))))))
+options_known Migrate = (inl refl, (inr (inr (inr (inr (inr (inr (inl refl)))))), tt))
+options_known Trial = (inr (inr (inr (inr (inr (inr (inr (inr (inr (inl refl))))))))), (inr (inr (inr (inr (inr (inr (inr (inr (inr (inr refl))))))))), tt))
 
 not_true : (b : Bool) → not b ≡ true → b ≡ false
 not_true true e = absurd (false≢true e)
@@ -419,14 +425,26 @@ has_values f (name ∷ rest) c ps found are =
     λ o default is_known is. first_value-rows f (drop 2 o) ∙ ap (first_of (drop 2 o)) rows
     ∙ value_found o default is_known is ps known front.1 in
     record {
-      journal = value (codes "--journal") [] (inl refl) (either (IsGiven (codes "--journal") []) refl (λ p. refl));
-      manager = value (codes "--manager") (codes "0") (inr (inl refl)) (either (IsGiven (codes "--manager") (codes "0")) refl (λ p. refl));
+      journal = value (codes "--journal") [] (inl refl)
+          (either (IsGiven (codes "--journal") []) refl (λ p. refl));
+      manager = value (codes "--manager") (codes "0") (inr (inl refl))
+          (either (IsGiven (codes "--manager") (codes "0")) refl (λ p. refl));
       role = value (codes "--role") (codes "orchestrator") (inr (inr (inl refl)))
           (either (IsGiven (codes "--role") (codes "orchestrator")) refl (λ p. refl));
-      rounds = value (codes "--rounds") (codes "1") (inr (inr (inr (inl refl))))
-          (either (IsGiven (codes "--rounds") (codes "1")) refl (λ p. refl));
+      rounds = value (codes "--rounds") [] (inr (inr (inr (inl refl))))
+          (either (IsGiven (codes "--rounds") []) refl (λ p. refl));
       orchestrator = value (codes "--orchestrator") [] (inr (inr (inr (inr (inl refl)))))
           (either (IsGiven (codes "--orchestrator") []) refl (λ p. refl));
-      vim = value (codes "--vim") [] (inr (inr (inr (inr (inr (inl refl)))))) (either (IsGiven (codes "--vim") []) refl (λ p. refl));
-      to = value (codes "--to") [] (inr (inr (inr (inr (inr (inr refl)))))) (either (IsGiven (codes "--to") []) refl (λ p. refl));
+      vim = value (codes "--vim") [] (inr (inr (inr (inr (inr (inl refl))))))
+          (either (IsGiven (codes "--vim") []) refl (λ p. refl));
+      to = value (codes "--to") [] (inr (inr (inr (inr (inr (inr (inl refl)))))))
+          (either (IsGiven (codes "--to") []) refl (λ p. refl));
+      listen = value (codes "--listen") [] (inr (inr (inr (inr (inr (inr (inr (inl refl))))))))
+          (either (IsGiven (codes "--listen") []) refl (λ p. refl));
+      em_listen = value (codes "--em-listen") [] (inr (inr (inr (inr (inr (inr (inr (inr (inl refl)))))))))
+          (either (IsGiven (codes "--em-listen") []) refl (λ p. refl));
+      start = value (codes "--start") (codes "0") (inr (inr (inr (inr (inr (inr (inr (inr (inr (inl refl))))))))))
+          (either (IsGiven (codes "--start") (codes "0")) refl (λ p. refl));
+      count = value (codes "--count") (codes "0") (inr (inr (inr (inr (inr (inr (inr (inr (inr (inr refl))))))))))
+          (either (IsGiven (codes "--count") (codes "0")) refl (λ p. refl));
     }

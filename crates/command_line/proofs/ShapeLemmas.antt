@@ -1,10 +1,12 @@
 -- Which pairs the words are, pair by pair.
-use Rattle.std.proofs.Common.{◌≡◌, ◌≤◌, ◌-◌, List, [], ◌∷◌, Bool, true, false, Option, Some, None, ap, refl, sym, ◌∙◌, length, arith}
-use Rattle.std.specs.Prelude.{is_some, option_map, ◌&&◌, take, drop}
+use Rattle.std.proofs.Common.{◌≡◌, ◌≤◌, ◌-◌, List, [], ◌∷◌, Bool, true, false, Option, Some, None, ap, refl, sym, ◌∙◌, length}
+use Rattle.std.proofs.Common.{arith}
+use Rattle.std.specs.Prelude.{is_some, option_map, ◌&&◌, take, drop, if◌then◌else◌}
 use Rattle.std.proofs.lemmas.List.{take_all}
-use Rattle.std.specs.List.{slice_index_or}
+use Rattle.std.specs.List.{list_all, slice_index_or}
 use Rattle.std.specs.Str.{bytes_eq}
-use Rattle.command_line.specs.Words.{Pair, Word, are_taken, pairs_of, parted, settings_for, settings_of, stands, takes, value_in, value_of}
+use Rattle.command_line.specs.Words.{Pair, Word, are_of, are_taken, command_named, needed_of, pairs_of, parted, settings_for, settings_of}
+use Rattle.command_line.specs.Words.{stand_once, stands, takes, value_in, value_of}
 use Rattle.command_line.specs.declared.options.Command.{Command}
 
 -- words of which two or more are left begin with a pair
@@ -108,3 +110,48 @@ has_pairs words c is = go (parted words) refl where
       let same : Some c ≡ Some x.0 = rw e at is in
       let one : x.0 ≡ c = cc in
       (x.1, e ∙ ap (λ (d : Command). Some (d, x.1)) one)
+
+-- the options that have to stand do or don't, where the pairs are taken
+abbrev AreAskedFor : Command → List Word → Bool → Bool → Type 0
+AreAskedFor c rest taken needed = taken ≡ true → (pairs : List Pair) → pairs_of rest ≡ Some pairs
+    → needed ≡ list_all (λ option. stands option pairs) (needed_of c)
+
+-- the command of words with a name, by whether the pairs behind it are taken and those that have to stand do
+command_by : (name : Word) (rest : List Word) (c : Command) (taken needed : Bool) → command_named name ≡ Some c
+    → taken ≡ are_taken c rest → AreAskedFor c rest taken needed
+    → option_map (λ parts. parts.0) (parted (name ∷ rest)) ≡ (if taken && needed then Some c else None)
+command_by name rest c taken needed named takes_all stand_all = go (pairs_of rest) refl where
+  judged : (b : Bool) (ps : List Pair) → pairs_of rest ≡ Some ps → are_of c ps ≡ b → b ≡ (taken && needed)
+      → option_map (λ parts. parts.0) (parted (name ∷ rest)) ≡ (if taken && needed then Some c else None)
+  judged true ps e is same = rw (named, e, is, sym same) refl
+  judged false ps e is same = rw (named, e, is, sym same) refl
+
+  both : (b : Bool) (ps : List Pair) → pairs_of rest ≡ Some ps → taken ≡ b
+      → (b ≡ (list_all (takes c) ps && stand_once ps)) → are_of c ps ≡ (taken && needed)
+  both true ps e is all = rw (is, sym all, stand_all is ps e) refl
+  both false ps e is all = rw (is, sym all) refl
+
+  go : (p : Option (List Pair)) → pairs_of rest ≡ p
+      → option_map (λ parts. parts.0) (parted (name ∷ rest)) ≡ (if taken && needed then Some c else None)
+  go None e = let no : taken ≡ false = rw e at takes_all in rw (named, e, no) refl
+  go (Some ps) e =
+      let all : taken ≡ (list_all (takes c) ps && stand_once ps) = rw e at takes_all in
+      judged (are_of c ps) ps e refl (both taken ps e refl all)
+
+-- words of which one or more are left begin with a name
+one_front : (ws : List Word) (name : Word) → 1 ≤ length ws → name ≡ slice_index_or ws 0 name
+    → ws ≡ name ∷ take (length ws - 1) (drop 1 ws)
+one_front [] name one first = absurd (omega (arith, one))
+one_front (x ∷ ws) name one first =
+    let all : take (length (x ∷ ws) - 1) ws ≡ ws = take_all _ ws (omega arith) in
+    rw (first, all) refl
+
+-- the same of words of which one or more are left
+pub command_in : (ws : List Word) (name : Word) (c : Command) (taken needed : Bool) → 1 ≤ length ws
+    → name ≡ slice_index_or ws 0 name → command_named name ≡ Some c
+    → taken ≡ are_taken c (take (length ws - 1) (drop 1 ws))
+    → AreAskedFor c (take (length ws - 1) (drop 1 ws)) taken needed
+    → (if taken && needed then Some c else None) ≡ option_map (λ parts. parts.0) (parted ws)
+command_in ws name c taken needed one first named takes_all stand_all =
+    sym (command_by name (take (length ws - 1) (drop 1 ws)) c taken needed named takes_all stand_all)
+    ∙ ap (λ v. option_map (λ parts. parts.0) (parted v)) (sym (one_front ws name one first))

@@ -10,7 +10,7 @@ use Rattle.std.specs.Char.{is_ascii_digit}
 use Rattle.lcm_events.specs.declared.states.Role.{Role}
 use Rattle.lcm_events.specs.declared.states.Role.TheVariants.{Element, Orchestrator}
 use Rattle.command_line.specs.declared.options.Command.{Command}
-use Rattle.command_line.specs.declared.options.Command.TheVariants.{Check, Init, Migrate, Onboard, Once}
+use Rattle.command_line.specs.declared.options.Command.TheVariants.{Check, Init, Migrate, Onboard, Once, Serve, Trial}
 use Rattle.command_line.specs.declared.options.Settings.{Settings}
 use Rattle.command_line.specs.declared.options.SettingsFault.{SettingsFault}
 use Rattle.command_line.specs.declared.options.SettingsFault.TheVariants.{Usage, Memory}
@@ -32,10 +32,22 @@ is_option (byte ∷ rest) = byte == 45
 abbrev pub is_number : Word → Bool
 is_number word = nat_le 1 (length word) && nat_le (length word) 20 && list_all is_ascii_digit word
 
--- the number that a word gives: one of at most 4,294,967,295
-abbrev pub number_of : Word → Option ℕ
-number_of word = if is_number word && nat_le (digits_value 10 word) 4294967295 then Some (digits_value 10 word)
+-- the number that a word gives: one of at most this
+abbrev pub number_up_to : ℕ → Word → Option ℕ
+number_up_to most word = if is_number word && nat_le (digits_value 10 word) most then Some (digits_value 10 word)
     else None
+
+-- one of at most 4,294,967,295
+abbrev pub number_of : Word → Option ℕ
+number_of word = number_up_to 4294967295 word
+
+-- the number that a trial is drawn from: one of at most 18,446,744,073,709,551,615
+abbrev pub start_of : Word → Option ℕ
+start_of word = number_up_to 18446744073709551615 word
+
+-- how many steps a trial has: at most 2,000
+abbrev pub count_of : Word → Option ℕ
+count_of word = option_and_then (λ n. if nat_le n 2000 then Some n else None) (number_of word)
 
 -- the role of this name
 abbrev pub role_of : Word → Option Role
@@ -48,24 +60,31 @@ command_named name =
     if bytes_eq name (codes "init") then Some Init
     else (if bytes_eq name (codes "onboard") then Some Onboard
     else (if bytes_eq name (codes "once") then Some Once
+    else (if bytes_eq name (codes "serve") then Some Serve
     else (if bytes_eq name (codes "check") then Some Check
-    else (if bytes_eq name (codes "migrate") then Some Migrate else None))))
+    else (if bytes_eq name (codes "migrate") then Some Migrate
+    else (if bytes_eq name (codes "trial") then Some Trial else None))))))
 
 -- the options of a command
 abbrev pub options_of : Command → List Word
 options_of Init = codes "--journal" ∷ codes "--manager" ∷ []
 options_of Onboard = codes "--journal" ∷ []
 options_of Once = codes "--journal" ∷ codes "--role" ∷ codes "--rounds" ∷ codes "--orchestrator" ∷ codes "--vim" ∷ []
+options_of Serve = codes "--journal" ∷ codes "--listen" ∷ codes "--em-listen" ∷ codes "--rounds"
+    ∷ codes "--orchestrator" ∷ codes "--vim" ∷ []
 options_of Check = codes "--journal" ∷ []
 options_of Migrate = codes "--journal" ∷ codes "--to" ∷ []
+options_of Trial = codes "--start" ∷ codes "--count" ∷ []
 
 -- those that have to stand
 abbrev pub needed_of : Command → List Word
 needed_of Init = codes "--journal" ∷ codes "--manager" ∷ []
 needed_of Onboard = codes "--journal" ∷ []
 needed_of Once = codes "--journal" ∷ []
+needed_of Serve = codes "--journal" ∷ codes "--listen" ∷ codes "--em-listen" ∷ []
 needed_of Check = codes "--journal" ∷ []
 needed_of Migrate = codes "--journal" ∷ codes "--to" ∷ []
+needed_of Trial = codes "--start" ∷ codes "--count" ∷ []
 
 -- the words are pairs of an option and its value, these
 abbrev pub pairs_of : List Word → Option (List Pair)
@@ -77,7 +96,11 @@ pairs_of (option ∷ value ∷ rest) = option_map (λ pairs. (option, value) ∷
 abbrev pub fits : Pair → Bool
 fits (option, value) =
     if bytes_eq option (codes "--manager") || bytes_eq option (codes "--rounds") then is_some (number_of value)
-    else (if bytes_eq option (codes "--role") then is_some (role_of value) else true)
+    else (if bytes_eq option (codes "--role") then is_some (role_of value)
+    else (if bytes_eq option (codes "--start") then is_some (start_of value)
+    else (if bytes_eq option (codes "--count") then is_some (count_of value)
+    else (if bytes_eq option (codes "--listen") || bytes_eq option (codes "--em-listen") then nat_le 1 (length value)
+    else true))))
 
 -- the pair is one of the command's options, with a value of its form
 abbrev pub takes : Command → Pair → Bool
@@ -124,13 +147,16 @@ parted (name ∷ rest) =
 abbrev pub given : Word → Word → List Pair → Word
 given option default pairs = unwrap_or (value_of option pairs) default
 
--- how many rounds a command makes, of which only `once` makes some
-abbrev pub rounds_for : Command → ℕ → ℕ
+-- how many rounds a command makes: `once` and `serve` make so many as they are told, or else one, and 4,294,967,295;
+-- the others make none
+abbrev pub rounds_for : Command → Option ℕ → ℕ
 rounds_for Init rounds = 0
 rounds_for Onboard rounds = 0
-rounds_for Once rounds = rounds
+rounds_for Once rounds = unwrap_or rounds 1
+rounds_for Serve rounds = unwrap_or rounds 4294967295
 rounds_for Check rounds = 0
 rounds_for Migrate rounds = 0
+rounds_for Trial rounds = 0
 
 -- what a command with these pairs sets; a text is empty and a number 0 where it lacks the option
 abbrev pub settings_for : Command → List Pair → Settings
@@ -139,14 +165,14 @@ settings_for command pairs = record {
   journal = given (codes "--journal") [] pairs;
   manager = unwrap_or (number_of (given (codes "--manager") (codes "0") pairs)) 0;
   role = unwrap_or (role_of (given (codes "--role") (codes "orchestrator") pairs)) Orchestrator;
-  rounds = rounds_for command (unwrap_or (number_of (given (codes "--rounds") (codes "1") pairs)) 0);
-  listen = [];
-  em_listen = [];
+  rounds = rounds_for command (number_of (given (codes "--rounds") [] pairs));
+  listen = given (codes "--listen") [] pairs;
+  em_listen = given (codes "--em-listen") [] pairs;
   orchestrator = given (codes "--orchestrator") [] pairs;
   vim = given (codes "--vim") [] pairs;
   to = given (codes "--to") [] pairs;
-  start = 0;
-  count = 0;
+  start = unwrap_or (start_of (given (codes "--start") (codes "0") pairs)) 0;
+  count = unwrap_or (count_of (given (codes "--count") (codes "0") pairs)) 0;
 }
 
 -- what the words set, where they are a command

@@ -17,10 +17,14 @@ pub fn matches_of<'a>(alloc: Global, words: &'a [&'a str]) -> Result<ArgMatches<
         .arg(option(alloc, "journal", ""))?
         .arg(option(alloc, "manager", "0"))?
         .arg(option(alloc, "role", "orchestrator"))?
-        .arg(option(alloc, "rounds", "1"))?
+        .arg(option(alloc, "rounds", ""))?
         .arg(option(alloc, "orchestrator", ""))?
         .arg(option(alloc, "vim", ""))?
-        .arg(option(alloc, "to", ""))?;
+        .arg(option(alloc, "to", ""))?
+        .arg(option(alloc, "listen", ""))?
+        .arg(option(alloc, "em-listen", ""))?
+        .arg(option(alloc, "start", "0"))?
+        .arg(option(alloc, "count", "0"))?;
     all.try_get_matches_from(words)
 }
 

@@ -12,10 +12,14 @@ pub enum Command {
     Onboard,
     /// Answers the requests on standard input.
     Once,
+    /// Answers the requests that come at two addresses.
+    Serve,
     /// Counts what a journal has.
     Check,
     /// Makes a journal of the present format of one of format 1.
     Migrate,
+    /// Plays requests drawn from a number over objects in memory.
+    Trial,
 }
 
 /// What the words set; empty or 0 where the command lacks it.
@@ -31,9 +35,9 @@ pub struct Settings {
     pub role: Role,
     /// How many rounds are made.
     pub rounds: u32,
-    /// The address for the orchestrator's requests.
+    /// The address for the orchestrator's requests; empty but for `serve`.
     pub listen: Text,
-    /// The address for the element manager's requests.
+    /// The address for the element manager's requests; empty but for `serve`.
     pub em_listen: Text,
     /// Where grants are to be asked for; empty where nothing is. An address or http URL.
     pub orchestrator: Text,
@@ -41,9 +45,9 @@ pub struct Settings {
     pub vim: Text,
     /// Where the journal is migrated to; empty but for `migrate`.
     pub to: Text,
-    /// The start of a trial.
+    /// The number that the requests of a trial are drawn from.
     pub start: u64,
-    /// The steps of a trial.
+    /// How many steps a trial has, at most 2,000.
     pub count: u32,
 }
 

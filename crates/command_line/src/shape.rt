@@ -4,7 +4,8 @@ ghost use Rattle.std.specs.Char.{is_ascii_digit};
 ghost use Rattle.std.specs.List.{list_all, list_any};
 ghost use Rattle.std.specs.Str.{bytes_eq};
 ghost use Rattle.command_line.specs.Words.{Pair, are_taken, command_named, fits, is_number, is_option, needed_of};
-ghost use Rattle.command_line.specs.Words.{number_of, options_of, pairs_of, parted, role_of, stands, takes, value_in};
+ghost use Rattle.command_line.specs.Words.{count_of, number_of, options_of, pairs_of, parted, role_of, stands};
+ghost use Rattle.command_line.specs.Words.{start_of, takes, value_in};
 
 use crate::options::Command;
 use lcm_events::Role;
@@ -12,6 +13,9 @@ use vnfm_base::Text;
 
 /// Digits that a number has at most.
 const MAX_DIGITS: usize = 20;
+
+/// Steps that a trial has at most.
+const MAX_COUNT: u32 = 2_000;
 
 /// The command that the words are, where they are one.
 ///
@@ -40,8 +44,10 @@ pub fn command_named(name: &Text) -> Option<Command>
         "init" => Some(Command::Init),
         "onboard" => Some(Command::Onboard),
         "once" => Some(Command::Once),
+        "serve" => Some(Command::Serve),
         "check" => Some(Command::Check),
         "migrate" => Some(Command::Migrate),
+        "trial" => Some(Command::Trial),
         _ => None,
     }
 }
@@ -68,7 +74,11 @@ fn has_needed(command: Command, words: &[Text]) -> bool
     match command {
         Command::Init => stands("--journal", words) && stands("--manager", words),
         Command::Onboard | Command::Once | Command::Check => stands("--journal", words),
+        Command::Serve => {
+            stands("--journal", words) && stands("--listen", words) && stands("--em-listen", words)
+        }
         Command::Migrate => stands("--journal", words) && stands("--to", words),
+        Command::Trial => stands("--start", words) && stands("--count", words),
     }
 }
 
@@ -122,7 +132,16 @@ pub fn has_option(command: Command, option: &str) -> bool
                 || option == "--orchestrator"
                 || option == "--vim"
         }
+        Command::Serve => {
+            option == "--journal"
+                || option == "--listen"
+                || option == "--em-listen"
+                || option == "--rounds"
+                || option == "--orchestrator"
+                || option == "--vim"
+        }
         Command::Migrate => option == "--journal" || option == "--to",
+        Command::Trial => option == "--start" || option == "--count",
     }
 }
 
@@ -134,6 +153,12 @@ fn fits(option: &str, value: &str) -> bool
         number_of(value).is_some()
     } else if option == "--role" {
         role_of(value).is_some()
+    } else if option == "--start" {
+        start_of(value).is_some()
+    } else if option == "--count" {
+        count_of(value).is_some()
+    } else if option == "--listen" || option == "--em-listen" {
+        !value.is_empty()
     } else {
         true
     }
@@ -167,6 +192,27 @@ pub fn number_of(word: &str) -> Option<u32>
         word.parse::<u32>().ok()
     } else {
         None
+    }
+}
+
+/// The number that a trial is drawn from, which a word gives.
+pub fn start_of(word: &str) -> Option<u64>
+    ensures { result ≡ start_of word.now }
+{
+    if is_number(word.as_bytes()) {
+        word.parse::<u64>().ok()
+    } else {
+        None
+    }
+}
+
+/// How many steps of a trial a word gives.
+pub fn count_of(word: &str) -> Option<u32>
+    ensures { result ≡ count_of word.now }
+{
+    match number_of(word) {
+        Some(number) if number <= MAX_COUNT => Some(number),
+        _ => None,
     }
 }
 

@@ -1,14 +1,14 @@
 //! The words of the command line.
-ghost use Rattle.std.specs.Prelude.{◌≡◌, [], List, IfOk, Some, codes, map, unwrap_or};
+ghost use Rattle.std.specs.Prelude.{◌≡◌, List, IfOk, Some, codes, map, unwrap_or};
 ghost use Rattle.clap.specs.Words.{first_value, found_of};
 ghost use Rattle.lcm_events.specs.declared.states.Role.TheVariants.{Orchestrator};
 ghost use Rattle.command_line.specs.Found.{HasValues};
-ghost use Rattle.command_line.specs.Words.{Pair, Settles, Word, number_of, parted, role_of, rounds_for, settings_for};
-ghost use Rattle.command_line.specs.Words.{settings_of};
+ghost use Rattle.command_line.specs.Words.{Pair, Settles, Word, count_of, number_of, parted, role_of, rounds_for};
+ghost use Rattle.command_line.specs.Words.{settings_for, settings_of, start_of};
 
 use crate::matches::matches_of;
 use crate::options::{Command, Settings, SettingsFault};
-use crate::shape::{command_of, number_of, role_of};
+use crate::shape::{command_of, count_of, number_of, role_of, start_of};
 use clap::ArgMatches;
 use lcm_events::Role;
 use std::alloc::{AllocError, Global};
@@ -69,24 +69,33 @@ fn settings_by(
         journal: text(alloc, matches, "journal")?,
         manager: number(matches, "manager"),
         role: role(matches),
-        rounds: rounds_for(command, number(matches, "rounds")),
-        listen: empty(alloc),
-        em_listen: empty(alloc),
+        rounds: rounds(command, matches),
+        listen: text(alloc, matches, "listen")?,
+        em_listen: text(alloc, matches, "em-listen")?,
         orchestrator: text(alloc, matches, "orchestrator")?,
         vim: text(alloc, matches, "vim")?,
         to: text(alloc, matches, "to")?,
-        start: 0,
-        count: 0,
+        start: start(matches),
+        count: count(matches),
     })
 }
 
-/// How many rounds a command makes: only `once` makes some.
-fn rounds_for(command: Command, rounds: u32) -> u32
-    ensures { result ≡ rounds_for command rounds }
+/// How many rounds a command makes, by what its words say.
+fn rounds(command: Command, matches: &ArgMatches<'_>) -> u32
+    ensures { (word : Word) → first_value (found_of matches.now) (codes "rounds") ≡ Some word
+        → result ≡ rounds_for command (number_of word) }
+{
+    rounds_for(command, number_of(value(matches, "rounds")))
+}
+
+/// How many rounds a command makes, which is told so many: only `once` and `serve` make some.
+fn rounds_for(command: Command, told: Option<u32>) -> u32
+    ensures { result ≡ rounds_for command told }
 {
     match command {
-        Command::Init | Command::Onboard | Command::Check | Command::Migrate => 0,
-        Command::Once => rounds,
+        Command::Once => told.unwrap_or(1),
+        Command::Serve => told.unwrap_or(u32::MAX),
+        Command::Init | Command::Onboard | Command::Check | Command::Migrate | Command::Trial => 0,
     }
 }
 
@@ -122,8 +131,18 @@ fn value<'a>(matches: &ArgMatches<'a>, name: &str) -> &'a str
     matches.get_str(name).unwrap_or("")
 }
 
-fn empty(alloc: Global) -> Text
-    ensures { result ≡ [] }
+/// The value of `--start`.
+fn start(matches: &ArgMatches<'_>) -> u64
+    ensures { (word : Word) → first_value (found_of matches.now) (codes "start") ≡ Some word
+        → result ≡ unwrap_or (start_of word) 0 }
 {
-    Text::of_string(String::new(alloc))
+    start_of(value(matches, "start")).unwrap_or(0)
+}
+
+/// The value of `--count`.
+fn count(matches: &ArgMatches<'_>) -> u32
+    ensures { (word : Word) → first_value (found_of matches.now) (codes "count") ≡ Some word
+        → result ≡ unwrap_or (count_of word) 0 }
+{
+    count_of(value(matches, "count")).unwrap_or(0)
 }

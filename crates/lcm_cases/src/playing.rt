@@ -235,6 +235,7 @@ fn plays(stage: &mut Stage, alloc: Global, act: &[Value]) -> Result<(), ActFault
         "base" => played(stage.take_base(alloc)),
         "door" => played(stage.plan_door(alloc, part(act, 1)?)),
         "bad door" => played(stage.plan_bad_door(alloc, act)),
+        "em door" => played(stage.plan_em_door(alloc, part(act, 1)?)),
         "cuts" => played(stage.plan_cuts(alloc, act)),
         "says" => played(stage.plan_answer(alloc, act)),
         "receipts" => played(stage.plan_receipts(alloc, act)),

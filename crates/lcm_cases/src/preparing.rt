@@ -189,6 +189,19 @@ impl Stage {
         self.plan_connection(alloc, text, 0, 0)
     }
 
+    /// `["em door", TEXT]`: a connection of the element manager comes with this text.
+    pub fn plan_em_door(&mut self, alloc: Global, text: &Value) -> Result<(), CaseFault> {
+        let mut pieces = Vec::new(alloc);
+        let bytes = self.names.text(alloc, text)?;
+        put_piece(alloc, &mut pieces, &bytes)?;
+        self.plan_door_as(DoorPlan::Conn {
+            role: Role::Element,
+            pieces,
+            failing_read: None,
+            failing_write: None,
+        })
+    }
+
     /// Plans a connection with this text, of which the second write fails.
     pub fn plan_second_write(&mut self, alloc: Global, text: &Value) -> Result<(), CaseFault> {
         self.plan_connection(alloc, text, 0, 2)

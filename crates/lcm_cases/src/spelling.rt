@@ -8,7 +8,7 @@ use case_lives::{ActFault, CaseFault, differs, list, part, quoted, truth, word};
 use command_line::{Settings, SettingsFault, settings};
 use lcm_events::Role;
 use outside_edges::WhyLost;
-use program_words::{page_of, reason_of};
+use program_words::{kind_of, page_of, reason_of};
 use serde_json::Value;
 use served_account::Account;
 use std::alloc::{AllocError, Global};
@@ -88,7 +88,8 @@ fn line_of(
     spare: Option<WhyLost>,
     undelivered: bool,
 ) -> Result<String, AllocError> {
-    match reason_of(status, lost, spare, undelivered, Account::new()) {
+    let kind = kind_of(words);
+    match reason_of(kind, status, lost, spare, undelivered, Account::new()) {
         Some(reason) => reason.line(alloc, words),
         None => Ok(String::new(alloc)),
     }

@@ -13,8 +13,9 @@ use Rattle.program_words.specs.declared.wrong.Wrong.{Wrong}
 use Rattle.served_account.specs.declared.account.Hearing.{Hearing}
 use Rattle.served_account.specs.declared.account.Hearing.TheVariants as hearing
 use Rattle.served_account.specs.declared.account.JsonBreak.{JsonBreak}
-use Rattle.program_words.specs.declared.wrong.Wrong.TheVariants.{Word, NotBuilt, Twice, NoCommand, NoValue, Value}
-use Rattle.program_words.specs.declared.wrong.Wrong.TheVariants.{NoJournal, NoManager, NoTo, Nothing}
+use Rattle.program_words.specs.declared.wrong.Wrong.TheVariants.{Word, Twice, NoCommand, NoValue, Value}
+use Rattle.program_words.specs.declared.wrong.Wrong.TheVariants.{NoJournal, NoManager, NoTo, NoListen, NoEmListen}
+use Rattle.program_words.specs.declared.wrong.Wrong.TheVariants.{NoStart, NoCount, Nothing}
 
 -- a line that says this
 abbrev pub plain_line : List ℕ → List ℕ
@@ -61,7 +62,11 @@ wanted_by option =
     if bytes_eq option (codes "--manager") || bytes_eq option (codes "--rounds")
     then codes "a number from 0 to 4294967295, in at most 20 digits"
     else (if bytes_eq option (codes "--role") then codes "orchestrator or em"
-    else codes "a word that doesn't begin with -")
+    else (if bytes_eq option (codes "--start")
+    then codes "a number from 0 to 18446744073709551615, in at most 20 digits"
+    else (if bytes_eq option (codes "--count") then codes "a number from 0 to 2000, in at most 20 digits"
+    else (if bytes_eq option (codes "--listen") || bytes_eq option (codes "--em-listen") then codes "an address and port"
+    else codes "a word that doesn't begin with -"))))
 
 -- a line that says of a word, quoted, that this option doesn't take it, and what it takes
 abbrev pub IsNoValueOf : List ℕ → List ℕ → Type 0
@@ -77,8 +82,6 @@ IsAboutValue words line = line ≡ plain_line (codes "the words are no command; 
 abbrev pub IsWrongLine : List (List ℕ) → Wrong → List ℕ → Type 0
 IsWrongLine words (Word place) line = IsAboutWord (codes "isn't understood; vnfm --help says more")
     (slice_get words place) line
-IsWrongLine words NotBuilt line = IsAboutWord (codes "isn't built yet; vnfm --help says which commands are")
-    (slice_get words 0) line
 IsWrongLine words (Twice place) line = IsAboutWord (codes "stands twice; vnfm --help says more")
     (slice_get words place) line
 IsWrongLine words (NoValue place) line = IsAboutWord (codes "has no value; vnfm --help says more")
@@ -88,6 +91,10 @@ IsWrongLine words NoCommand line = line ≡ plain_line (codes "a command is miss
 IsWrongLine words NoJournal line = line ≡ plain_line (codes "--journal PATH is missing; vnfm --help says more")
 IsWrongLine words NoManager line = line ≡ plain_line (codes "--manager N is missing; vnfm --help says more")
 IsWrongLine words NoTo line = line ≡ plain_line (codes "--to PATH is missing; vnfm --help says more")
+IsWrongLine words NoListen line = line ≡ plain_line (codes "--listen ADDR is missing; vnfm --help says more")
+IsWrongLine words NoEmListen line = line ≡ plain_line (codes "--em-listen ADDR is missing; vnfm --help says more")
+IsWrongLine words NoStart line = line ≡ plain_line (codes "--start N is missing; vnfm --help says more")
+IsWrongLine words NoCount line = line ≡ plain_line (codes "--count N is missing; vnfm --help says more")
 IsWrongLine words Nothing line = line ≡ plain_line (codes "the words are no command; vnfm --help says more")
 
 -- what is said where there is no such folder: of an empty path that it is empty
@@ -159,6 +166,10 @@ IsLineOf (say.LostSpare why) words line = IsAboutSpare words (lost_text why (pat
 IsLineOf say.NoDevice words line = line ≡ plain_line
     (codes "/dev/null couldn't be opened, which holds the places of closed standard streams")
 IsLineOf say.Input words line = line ≡ plain_line (codes "standard input couldn't be read")
+IsLineOf say.Addresses words line = line ≡ plain_line
+    (codes "no connection can be had at the addresses of --listen and --em-listen")
+IsLineOf say.TrialRoom words line = line ≡ plain_line
+    (codes "the journal of this trial would be longer than its room of 67108864 bytes")
 IsLineOf say.NoJournal words line = IsNoJournalLine (are_to_migrate words) words line
 IsLineOf say.NoMemory words line = line ≡ plain_line (codes "there was no memory")
 IsLineOf say.Output words line = line ≡ plain_line (codes "the last line couldn't be written")

@@ -7,5 +7,5 @@ mod reason;
 mod wrong;
 
 pub use page::{Page, page_of};
-pub use reason::{Reason, reason_of};
+pub use reason::{Kind, Reason, kind_of, reason_of};
 pub use wrong::{Wrong, wrong_of};

@@ -15,10 +15,14 @@ pub enum Page {
     Onboard,
     /// What those of `once` are.
     Once,
+    /// What those of `serve` are.
+    Serve,
     /// What those of `check` are.
     Check,
     /// What those of `migrate` are.
     Migrate,
+    /// What those of `trial` are.
+    Trial,
     /// The program's version.
     Version,
 }
@@ -29,8 +33,11 @@ const HELP: &str = "vnfm: a VNF lifecycle manager after ETSI GS NFV-SOL 003 V2.6
     vnfm init --journal PATH --manager N    make the journal of manager N, from 0 to 4294967295, at PATH
     vnfm onboard --journal PATH             onboard the descriptor on standard input, a JSON document
     vnfm once --journal PATH [OPTION..]     answer the requests on standard input, and record what they ask for
+    vnfm serve --journal PATH --listen ADDR --em-listen ADDR [OPTION..]
+                                            answer the requests that come at two addresses, until it is stopped
     vnfm check --journal PATH               count what the journal at PATH has, and change nothing
     vnfm migrate --journal PATH --to PATH   make a journal of the present format of one of format 1
+    vnfm trial --start N --count N          play requests drawn from a number over objects in memory
     vnfm COMMAND --help                     print the words of a command, with an example
     vnfm --help                             print this text
     vnfm --version                          print the version
@@ -49,8 +56,9 @@ how it went:
     0  done after N rounds      the requests were answered, with a refusal too
     0  records R, instances I, ongoing G, subscriptions S
     0  migrated N records       the journal at --to has all that the old one has
-    2  usage: ..                the words are no command; serve and trial, which it names, aren't built yet
-    3  site fault               a disk call failed
+    0  requests N, accepted A, refused R      and two lines more, of a trial
+    2  usage: ..                the words are no command
+    3  site fault               a disk call failed, or a trial's journal passes its room
     4  door fault               there was no connection, or the descriptor couldn't be read
     5  no journal               the file at PATH is unfinished
     5  not a journal: byte N    its header differs first at byte N, which is 8 where it is of another format
@@ -105,6 +113,28 @@ up to its end or to the first that asks to close it. A body has at most 1048576 
 output.
 ";
 
+/// What `serve --help` prints.
+const SERVE: &str = "vnfm serve --journal PATH --listen ADDR --em-listen ADDR [OPTION..]
+                           answer the requests that come at two addresses, until it is stopped
+
+    --listen ADDR          where the orchestrator's requests come: an address and port
+    --em-listen ADDR       where the element manager's come: another
+    --rounds N             how many rounds are made, from 0 to 4294967295, which is 136 years of seconds where nothing
+                           comes; 4294967295 where it isn't given. In each a connection is served that came, if one
+                           did, each operation under way is moved on by a step, and each subscription is posted a
+                           notice that waits
+    --orchestrator ADDR    where grants are asked for: a literal address and port, or a URL of http with one; nowhere
+                           without it
+    --vim ADDR             where the infrastructure is: a literal address and port; nowhere without it
+
+    vnfm serve --journal journal --listen 127.0.0.1:8880 --em-listen 127.0.0.1:8881 --vim 127.0.0.1:8890 \\
+        --orchestrator 127.0.0.1:8891
+
+PATH is a journal that init made. Each connection is one of HTTP/1.1; what it is told is on the disk before. It may be
+stopped at any moment, by SIGTERM or otherwise, and started again: it goes on with all that it told of. Standard error
+says where it listens, and then, at most once a second for each kind of peer, how many calls on it have failed so far.
+";
+
 /// What `check --help` prints.
 const CHECK: &str =
     "vnfm check --journal PATH    count what the journal at PATH has, and change nothing
@@ -130,6 +160,18 @@ unfinished for the same manager is overwritten, as by init. Any other file is ta
 Behind status 0 the old file may be kept or deleted. A migrate that was stopped half-way is simply run again.
 ";
 
+/// What `trial --help` prints.
+const TRIAL: &str =
+    "vnfm trial --start N --count N    play requests drawn from a number over objects in memory
+
+    vnfm trial --start 1 --count 100
+
+--start is the number that the requests are drawn from, from 0 to 18446744073709551615, and --count how many steps are
+made, from 0 to 2000. Each step makes at most one request and then moves each operation on by three steps, over an
+infrastructure that refuses each sixteenth job and an orchestrator that grants all. No file and no address is used. Three
+lines say what came of it, the same for the same numbers.
+";
+
 /// What `--version` prints.
 const VERSION: &str = "vnfm 0.1.0\n";
 
@@ -143,8 +185,10 @@ impl Page {
             Page::Init => INIT,
             Page::Onboard => ONBOARD,
             Page::Once => ONCE,
+            Page::Serve => SERVE,
             Page::Check => CHECK,
             Page::Migrate => MIGRATE,
+            Page::Trial => TRIAL,
             Page::Version => VERSION,
         }
     }
@@ -195,11 +239,17 @@ fn command_page(command: &Text) -> Option<Page>
     if command.as_str() == "once" {
         return Some(Page::Once);
     }
+    if command.as_str() == "serve" {
+        return Some(Page::Serve);
+    }
     if command.as_str() == "check" {
         return Some(Page::Check);
     }
     if command.as_str() == "migrate" {
         return Some(Page::Migrate);
+    }
+    if command.as_str() == "trial" {
+        return Some(Page::Trial);
     }
     None
 }

@@ -5,7 +5,8 @@ ghost use Rattle.program_words.specs.Lines.{IsAboutJournal, IsAboutPath, IsAbout
 ghost use Rattle.program_words.specs.Lines.{IsLineOf, IsLineOn, IsNoJournalLine, IsNoValueOf, IsRoomLine, IsTakenLine};
 ghost use Rattle.program_words.specs.Lines.{IsWrongLine, are_to_migrate, descriptor_line, lost_text, no_folder_text};
 ghost use Rattle.program_words.specs.Lines.{path_in, path_to, plain_line, unanswered_line, unanswered_text, wanted_by};
-ghost use Rattle.program_words.specs.Reasons.{delivery_reason, hearing_reason, lost_reason, reason_of};
+ghost use Rattle.program_words.specs.Reasons.{delivery_reason, done_reason, door_reason, hearing_reason, kind_of};
+ghost use Rattle.program_words.specs.Reasons.{lost_reason, reason_of, site_reason};
 ghost use Rattle.program_words.specs.Wrong.{wrong_of};
 
 use crate::wrong::{Wrong, wrong_of};
@@ -25,6 +26,31 @@ const NO_JOURNAL: &str =
     "it is not a journal that init has finished; one of format 1, whose header differs first at byte 8, is carried \
     over by vnfm migrate --journal PATH --to NEWPATH";
 
+/// What kind of run words are for, as far as what is said of its end goes.
+#[derive(Clone, Copy)]
+pub enum Kind {
+    /// One that serves the connections at two addresses.
+    Serving,
+    /// A trial.
+    Trying,
+    /// Another.
+    Other,
+}
+
+/// What kind of run these words are for, by the command's name.
+pub fn kind_of(words: &[Text]) -> Kind
+    ensures { result ≡ kind_of words.now }
+{
+    let [name, ..] = words else {
+        return Kind::Other;
+    };
+    match name.as_str() {
+        "serve" => Kind::Serving,
+        "trial" => Kind::Trying,
+        _ => Kind::Other,
+    }
+}
+
 /// Why a run ended as it did, where there is something to say.
 #[derive(Clone, Copy)]
 pub enum Reason {
@@ -40,6 +66,10 @@ pub enum Reason {
     NoDevice,
     /// Standard input couldn't be read.
     Input,
+    /// No connection can be had at the addresses.
+    Addresses,
+    /// A trial's journal passes its room.
+    TrialRoom,
     /// No journal of the format that the command reads stands at the path.
     NoJournal,
     /// There was no memory.
@@ -67,24 +97,25 @@ pub enum Reason {
     },
 }
 
-/// What is to be said of a run with this status, by why the file was lost, and the one to which the journal goes,
-/// whether the answer was, and what was heard and answered.
+/// What is to be said of a run of this kind with this status, by why the file was lost, and the one to which the journal
+/// goes, whether the answer was, and what was heard and answered.
 ///
 /// Source: own rule, docs/FORMATS.md, "The program".
 pub fn reason_of(
+    kind: Kind,
     status: u8,
     lost: Option<WhyLost>,
     spare: Option<WhyLost>,
     undelivered: bool,
     account: Account,
 ) -> Option<Reason>
-    ensures { result ≡ reason_of status lost spare undelivered account }
+    ensures { result ≡ reason_of kind status lost spare undelivered account }
 {
     match status {
-        0 => delivery_reason(undelivered, account),
+        0 => done_reason(kind, undelivered, account),
         2 => Some(Reason::Words),
-        3 => Some(lost_reason(lost, spare)),
-        4 => Some(Reason::Input),
+        3 => Some(site_reason(kind, lost, spare)),
+        4 => Some(door_reason(kind)),
         5 => Some(Reason::NoJournal),
         6 => Some(Reason::NoMemory),
         7 => Some(Reason::Output),
@@ -96,7 +127,37 @@ pub fn reason_of(
     }
 }
 
-/// What is to be said of a run that did its work.
+/// What is to be said of a run of this kind that did its work.
+fn done_reason(kind: Kind, undelivered: bool, account: Account) -> Option<Reason>
+    ensures { result ≡ done_reason kind undelivered account }
+{
+    match kind {
+        Kind::Serving => None,
+        Kind::Trying | Kind::Other => delivery_reason(undelivered, account),
+    }
+}
+
+/// What is to be said where the site failed a run of this kind.
+fn site_reason(kind: Kind, lost: Option<WhyLost>, spare: Option<WhyLost>) -> Reason
+    ensures { result ≡ site_reason kind lost spare }
+{
+    match kind {
+        Kind::Trying => Reason::TrialRoom,
+        Kind::Serving | Kind::Other => lost_reason(lost, spare),
+    }
+}
+
+/// What is to be said where the door failed a run of this kind.
+fn door_reason(kind: Kind) -> Reason
+    ensures { result ≡ door_reason kind }
+{
+    match kind {
+        Kind::Serving => Reason::Addresses,
+        Kind::Trying | Kind::Other => Reason::Input,
+    }
+}
+
+/// What is to be said of a run that answered one connection.
 fn delivery_reason(undelivered: bool, account: Account) -> Option<Reason>
     ensures { result ≡ delivery_reason undelivered account }
 {
@@ -160,6 +221,14 @@ impl Reason {
                 "/dev/null couldn't be opened, which holds the places of closed standard streams",
             ),
             Reason::Input => plain(alloc, "standard input couldn't be read"),
+            Reason::Addresses => plain(
+                alloc,
+                "no connection can be had at the addresses of --listen and --em-listen",
+            ),
+            Reason::TrialRoom => plain(
+                alloc,
+                "the journal of this trial would be longer than its room of 67108864 bytes",
+            ),
             Reason::NoJournal => no_journal_line(alloc, words),
             Reason::NoMemory => plain(alloc, "there was no memory"),
             Reason::Output => plain(alloc, "the last line couldn't be written"),
@@ -402,12 +471,6 @@ fn wrong_line(alloc: Global, words: &[Text]) -> Result<String, AllocError>
             place,
             "isn't understood; vnfm --help says more",
         ),
-        Wrong::NotBuilt => word_line(
-            alloc,
-            words,
-            0,
-            "isn't built yet; vnfm --help says which commands are",
-        ),
         Wrong::Twice(place) => word_line(
             alloc,
             words,
@@ -425,6 +488,10 @@ fn wrong_line(alloc: Global, words: &[Text]) -> Result<String, AllocError>
         Wrong::NoJournal => plain(alloc, "--journal PATH is missing; vnfm --help says more"),
         Wrong::NoManager => plain(alloc, "--manager N is missing; vnfm --help says more"),
         Wrong::NoTo => plain(alloc, "--to PATH is missing; vnfm --help says more"),
+        Wrong::NoListen => plain(alloc, "--listen ADDR is missing; vnfm --help says more"),
+        Wrong::NoEmListen => plain(alloc, "--em-listen ADDR is missing; vnfm --help says more"),
+        Wrong::NoStart => plain(alloc, "--start N is missing; vnfm --help says more"),
+        Wrong::NoCount => plain(alloc, "--count N is missing; vnfm --help says more"),
         Wrong::Nothing => plain(alloc, "the words are no command; vnfm --help says more"),
     }
 }
@@ -489,6 +556,9 @@ fn wanted_by(option: &str) -> &'static str
     match option {
         "--manager" | "--rounds" => "a number from 0 to 4294967295, in at most 20 digits",
         "--role" => "orchestrator or em",
+        "--start" => "a number from 0 to 18446744073709551615, in at most 20 digits",
+        "--count" => "a number from 0 to 2000, in at most 20 digits",
+        "--listen" | "--em-listen" => "an address and port",
         _ => "a word that doesn't begin with -",
     }
 }

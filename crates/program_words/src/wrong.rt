@@ -1,7 +1,8 @@
 //! Which word isn't understood.
 ghost use Rattle.std.specs.Prelude.{◌≡◌, ◌≤◌, drop, length, take};
-ghost use Rattle.program_words.specs.Wrong.{is_among, is_new, is_unbuilt, misplaced, needs_manager, needs_to};
-ghost use Rattle.program_words.specs.Wrong.{wrong_at_end, wrong_behind, wrong_of};
+ghost use Rattle.program_words.specs.Wrong.{is_among, is_new, misplaced, needs_addresses, needs_draw, needs_journal};
+ghost use Rattle.program_words.specs.Wrong.{needs_manager, needs_to, wrong_addresses, wrong_at_end, wrong_behind};
+ghost use Rattle.program_words.specs.Wrong.{wrong_draw, wrong_of};
 
 use command_line::{Command, command_named, has_option, takes};
 use vnfm_base::Text;
@@ -11,8 +12,6 @@ use vnfm_base::Text;
 pub enum Wrong {
     /// The word at this place, from 0, isn't understood there.
     Word(usize),
-    /// The first word is a command that isn't built yet.
-    NotBuilt,
     /// The option at this place, from 0, stands before it too.
     Twice(usize),
     /// There is no command.
@@ -27,6 +26,14 @@ pub enum Wrong {
     NoManager,
     /// `--to` and a path are missing.
     NoTo,
+    /// `--listen` and an address are missing.
+    NoListen,
+    /// `--em-listen` and an address are missing.
+    NoEmListen,
+    /// `--start` and a number are missing.
+    NoStart,
+    /// `--count` and a number are missing.
+    NoCount,
     /// Nothing: of words that are no command there is always something else.
     Nothing,
 }
@@ -42,22 +49,8 @@ pub fn wrong_of(words: &[Text]) -> Wrong
     };
     match command_named(name) {
         Some(command) => wrong_behind(command, words),
-        None => {
-            if is_unbuilt(name) {
-                Wrong::NotBuilt
-            } else {
-                Wrong::Word(0)
-            }
-        }
+        None => Wrong::Word(0),
     }
-}
-
-/// Whether the usage line names a command so that isn't built yet.
-fn is_unbuilt(name: &Text) -> bool
-    ensures { result ≡ is_unbuilt name.now }
-{
-    let name = name.as_str();
-    name == "serve" || name == "trial"
 }
 
 /// What is wrong first behind a command's name, which is the first word.
@@ -91,7 +84,7 @@ fn wrong_behind(command: Command, words: &[Text]) -> Wrong
 fn wrong_at_end(command: Command, words: &[Text]) -> Wrong
     ensures { result ≡ wrong_at_end command words.now }
 {
-    if !is_among(words, "--journal") {
+    if needs_journal(command) && !is_among(words, "--journal") {
         return Wrong::NoJournal;
     }
     if needs_manager(command) && !is_among(words, "--manager") {
@@ -100,7 +93,54 @@ fn wrong_at_end(command: Command, words: &[Text]) -> Wrong
     if needs_to(command) && !is_among(words, "--to") {
         return Wrong::NoTo;
     }
+    if needs_addresses(command) {
+        return wrong_addresses(words);
+    }
+    if needs_draw(command) {
+        return wrong_draw(words);
+    }
     Wrong::Nothing
+}
+
+/// What is wrong where the words of a command that has to have two addresses end.
+fn wrong_addresses(words: &[Text]) -> Wrong
+    ensures { result ≡ wrong_addresses words.now }
+{
+    if !is_among(words, "--listen") {
+        return Wrong::NoListen;
+    }
+    if !is_among(words, "--em-listen") {
+        return Wrong::NoEmListen;
+    }
+    Wrong::Nothing
+}
+
+/// What is wrong where the words of a command that has to have a start and a count end.
+fn wrong_draw(words: &[Text]) -> Wrong
+    ensures { result ≡ wrong_draw words.now }
+{
+    if !is_among(words, "--start") {
+        return Wrong::NoStart;
+    }
+    if !is_among(words, "--count") {
+        return Wrong::NoCount;
+    }
+    Wrong::Nothing
+}
+
+/// Whether the command has to have a journal's path.
+fn needs_journal(command: Command) -> bool
+    ensures { result ≡ needs_journal command }
+{
+    match command {
+        Command::Trial => false,
+        Command::Init
+        | Command::Onboard
+        | Command::Once
+        | Command::Serve
+        | Command::Check
+        | Command::Migrate => true,
+    }
 }
 
 /// Whether the command has to have a manager's number.
@@ -109,7 +149,12 @@ fn needs_manager(command: Command) -> bool
 {
     match command {
         Command::Init => true,
-        Command::Onboard | Command::Once | Command::Check | Command::Migrate => false,
+        Command::Onboard
+        | Command::Once
+        | Command::Serve
+        | Command::Check
+        | Command::Migrate
+        | Command::Trial => false,
     }
 }
 
@@ -119,7 +164,42 @@ fn needs_to(command: Command) -> bool
 {
     match command {
         Command::Migrate => true,
-        Command::Init | Command::Onboard | Command::Once | Command::Check => false,
+        Command::Init
+        | Command::Onboard
+        | Command::Once
+        | Command::Serve
+        | Command::Check
+        | Command::Trial => false,
+    }
+}
+
+/// Whether the command has to have two addresses.
+fn needs_addresses(command: Command) -> bool
+    ensures { result ≡ needs_addresses command }
+{
+    match command {
+        Command::Serve => true,
+        Command::Init
+        | Command::Onboard
+        | Command::Once
+        | Command::Check
+        | Command::Migrate
+        | Command::Trial => false,
+    }
+}
+
+/// Whether the command has to have a start and a count.
+fn needs_draw(command: Command) -> bool
+    ensures { result ≡ needs_draw command }
+{
+    match command {
+        Command::Trial => true,
+        Command::Init
+        | Command::Onboard
+        | Command::Once
+        | Command::Serve
+        | Command::Check
+        | Command::Migrate => false,
     }
 }
 

@@ -1,13 +1,13 @@
 -- What `check` leaves, and what its line tells.
 use Rattle.std.proofs.Common.{◌≡◌, ◌∙◌, ◌<◌, ◌++◌, ⊎_elim, inl, inr, ℕ, List, Bool, ap, refl, sym, subst, arith, if◌then◌else◌}
-use Rattle.command_line.specs.declared.options.Command.TheVariants.{Check, Init, Migrate, Onboard, Once}
+use Rattle.command_line.specs.declared.options.Command.TheVariants.{Check, Init, Migrate, Onboard, Trial}
 use Rattle.executor.specs.History.{HasHistory}
 use Rattle.executor.specs.Laws.{HasOneHistory}
 use Rattle.journal_core.specs.Load.{SyncsAndReads}
 use Rattle.lcm_events.specs.declared.events.Event.{Event}
 use Rattle.site_traits.specs.Advancing.{advances-refl}
 use Rattle.site_traits.specs.Site.{KeepsJobs, Pair, SiteState}
-use Rattle.vnfm_commands.specs.Course.{Course, misused, starved, making, migrating, unopened, opened, serving, onboarding, counting, IsOfWords}
+use Rattle.vnfm_commands.specs.Course.{Course, misused, starved, making, migrating, trying, unopened, opened, serving, onboarding, counting, IsOfWords}
 use Rattle.vnfm_commands.specs.Course.{ending_of, unopened_failure}
 use Rattle.vnfm_commands.specs.Ending.{Ends, Output, totals_line}
 use Rattle.vnfm_commands.specs.Runs.{AtCount, AtFile, AtJobs, IsLegalCourse, IsUntouched}
@@ -16,7 +16,7 @@ use Rattle.vnfm_commands.specs.Words.{AreWordsOf}
 use Rattle.vnfm_commands.specs.declared.ending.Failure.TheVariants.{NoMemory}
 use Rattle.vnfm_cli.specs.Promises.{IsLeftAlone, MightBeLeft}
 use Rattle.vnfm_cli.proofs.EndingLemmas.{done_put, never_done}
-use Rattle.vnfm_cli.proofs.ExactLemmas.{commanded, never_served, of_command}
+use Rattle.vnfm_cli.proofs.ExactLemmas.{commanded, never_rounds, never_served, of_command}
 
 -- what a stop left it might leave
 left_before : (a : SiteState) (p : Pair) → a.since a.moment p → MightBeLeft a p
@@ -63,9 +63,10 @@ left_alone starved words a b are of at jobs counted = untouched_alone a b at job
 left_alone (making number result) words a b are of at jobs counted = let it =
     of_command Check words (making number result) are of in never_served _ it.0 Check Init it.1 it.2.0 (λ wrong. cc)
 left_alone (migrating result) words a b are of at jobs counted = read_alone a b at
+left_alone (trying result) words a b are of at jobs counted = untouched_alone a b at jobs
 left_alone (unopened why) words a b are of at jobs counted = read_alone a b at.reads
 left_alone (opened start (serving service)) words a b are of at jobs counted = let it =
-    of_command Check words (opened start (serving service)) are of in never_served _ it.0 Check Once it.1 it.2.command (λ wrong. cc)
+    of_command Check words (opened start (serving service)) are of in never_rounds _ it.0 Check it.1 it.2.command refl
 left_alone (opened start (onboarding o)) words a b are of at jobs counted = let it =
     of_command Check words (opened start (onboarding o)) are of in never_served _ it.0 Check Onboard it.1 it.2 (λ wrong. cc)
 left_alone (opened start counting) words a b are of at jobs counted = read_alone a b counted
@@ -83,10 +84,12 @@ told_totals once lines told (making number result) words status m H a b c d are 
     of_command Check words (making number result) are of in never_served _ it.0 Check Init it.1 it.2.0 (λ wrong. cc)
 told_totals once lines told (migrating result) words status m H a b c d are of at legal ends done small has = let it =
     of_command Check words (migrating result) are of in never_served _ it.0 Check Migrate it.1 it.2 (λ wrong. cc)
+told_totals once lines told (trying result) words status m H a b c d are of at legal ends done small has = let it =
+    of_command Check words (trying result) are of in never_served _ it.0 Check Trial it.1 it.2.0 (λ wrong. cc)
 told_totals once lines told (unopened why) words status m H a b c d are of at legal ends done small has =
     absurd (never_done ends.put (unopened_failure why) (sym ends.status_is ∙ done))
 told_totals once lines told (opened start (serving service)) words status m H a b c d are of at legal ends done small has = let it =
-    of_command Check words (opened start (serving service)) are of in never_served _ it.0 Check Once it.1 it.2.command (λ wrong. cc)
+    of_command Check words (opened start (serving service)) are of in never_rounds _ it.0 Check it.1 it.2.command refl
 told_totals once lines told (opened start (onboarding o)) words status m H a b c d are of at legal ends done small has = let it =
     of_command Check words (opened start (onboarding o)) are of in never_served _ it.0 Check Onboard it.1 it.2 (λ wrong. cc)
 told_totals once lines told (opened start counting) words status m H a b c d are of at legal ends done small has =

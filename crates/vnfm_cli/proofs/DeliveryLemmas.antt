@@ -18,7 +18,7 @@ use Rattle.notify_outbox.specs.Rounds.{DispatchesDo, RoundEnd, once_all_dispatch
 use Rattle.vnfm_cli.specs.Deliveries.{ArePosted, ComesAfter, IsNext, NeverFalls, PostsInOrder, Sending, TellOfWhatStands}
 use Rattle.vnfm_cli.specs.Deliveries.{TellsOfWhatStands, sent_at_close, sent_behind, sent_by, sent_in_rounds, sent_last}
 use Rattle.vnfm_commands.proofs.ToldLemmas.{acted_extends, close_aims, posts_aim, posts_extend}
-use Rattle.vnfm_commands.specs.Course.{Close, Course, Opening, Round, Service, close_work, finished, halted, making, migrating, misused, moment_of}
+use Rattle.vnfm_commands.specs.Course.{Close, Course, Opening, Round, Service, close_work, finished, halted, making, migrating, trying, misused, moment_of}
 use Rattle.vnfm_commands.specs.Course.{Turning, Visit, onboarding, once_acted, once_made, once_posted, opened, serving, starved, stopped}
 use Rattle.vnfm_commands.specs.Course.{counting, undelivered, unopened, unreached}
 use Rattle.vnfm_commands.specs.Outside.{Beside, Tells, posting_tells}
@@ -249,6 +249,7 @@ module _ (order : NoticesGoInOrder) (again : NoneIsPostedTooOften) (skipped : No
   goes_in_order t starved a b does legal = ap (λ (x : Beside). x.courier) does
   goes_in_order t (making number result) a b does legal = does.asks.courier
   goes_in_order t (migrating result) a b does legal = does.asks.courier
+  goes_in_order t (trying result) a b does legal = ap (λ (x : Beside). x.courier) does
   goes_in_order t (unopened why) a b does legal = does.asks.courier
   goes_in_order t (opened start (onboarding o)) a b does legal = does.2.1.courier ∙ does.1.asks.courier
   goes_in_order t (opened start counting) a b does legal = ap (λ (x : Beside). x.courier) does.2 ∙ does.1.asks.courier
@@ -276,6 +277,7 @@ module _ (beginning : RoundsTellOfTheirBeginning) where
   tells_of_what_stands t starved a b does = tt
   tells_of_what_stands t (making number result) a b does = tt
   tells_of_what_stands t (migrating result) a b does = tt
+  tells_of_what_stands t (trying result) a b does = tt
   tells_of_what_stands t (unopened why) a b does = tt
   tells_of_what_stands t (opened start (onboarding o)) a b does = tt
   tells_of_what_stands t (opened start counting) a b does = tt

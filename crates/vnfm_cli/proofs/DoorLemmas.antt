@@ -6,6 +6,9 @@ use Rattle.executor.specs.declared.manager.OpenFault.TheVariants as opening
 use Rattle.journal_core.specs.declared.create.CreateFault.TheVariants as creating
 use Rattle.lcm_replies.specs.Failing.{counts_by}
 use Rattle.lcm_mouth.specs.Mouth.{MouthState}
+use Rattle.lcm_trial.specs.declared.counts.Tried.{Tried}
+use Rattle.lcm_trial.specs.declared.counts.TrialFault.{TrialFault}
+use Rattle.lcm_trial.specs.declared.counts.TrialFault.TheVariants as trial
 use Rattle.lcm_sessions.specs.Session.{Closing, Talk, counts_behind, is_cut, is_lost, life}
 use Rattle.lcm_mouth.specs.World.{Peers, WorldTells}
 use Rattle.lcm_events.specs.declared.events.Event.{Event}
@@ -19,11 +22,11 @@ use Rattle.notify_outbox.specs.Rounds as outbox
 use Rattle.notify_outbox.specs.Rounds.{RoundEnd}
 use Rattle.site_traits.specs.Counts.{one_more}
 use Rattle.site_traits.specs.Door.{DoorCounts, call_failed, closed, next_failed, opened as has_come}
-use Rattle.command_line.specs.declared.options.Command.TheVariants.{Onboard, Once}
+use Rattle.command_line.specs.declared.options.Command.TheVariants.{Onboard}
 use Rattle.vnfm_cli.specs.Causes.{FailsAtDoor}
 use Rattle.journal_migration.specs.declared.migration.MigrateFault.{MigrateFault}
 use Rattle.journal_migration.specs.declared.migration.MigrateFault.TheVariants as moving
-use Rattle.vnfm_commands.specs.Course.{Course, misused, starved, making, migrating, migrating_ending, unopened, opened, Opening, serving, onboarding, counting, Visit}
+use Rattle.vnfm_commands.specs.Course.{Course, misused, starved, making, migrating, migrating_ending, trying, trying_ending, unopened, opened, Opening, serving, onboarding, counting, Visit}
 use Rattle.vnfm_commands.specs.Course.{unasked}
 use Rattle.vnfm_commands.specs.Course.{served, Turning, Round, Close, finished, unreached, stopped, halted, undelivered, full}
 use Rattle.vnfm_commands.specs.Course.{starving, broken, bad, IsOfWords, close_ending, ending_of, once_made, onboarding_ending}
@@ -31,7 +34,7 @@ use Rattle.vnfm_cli.specs.DoorFaults.{CountsFaults, CountsOnboarding, close_coun
 use Rattle.vnfm_commands.specs.Outside.{Beside, Tells, session_peers, session_tells}
 use Rattle.vnfm_commands.specs.Rounds.{CloseDoes, Receives, RoundGoes, RoundsDo, Visits}
 use Rattle.vnfm_commands.specs.Runs.{CourseDoes}
-use Rattle.vnfm_commands.specs.Words.{AreWordsOf}
+use Rattle.vnfm_commands.specs.Words.{AreServing, AreWordsOf}
 use Rattle.vnfm_commands.specs.declared.ending.Failure.TheVariants.{DoorFault as DoorFailure}
 
 receives_counted : (t : WorldTells) (m saved : ℕ) (H : List Event) (came : Role) (talk : Talk) (a b : Peers) → Receives t m saved H came talk a b
@@ -91,6 +94,7 @@ course_counted t misused a b does = ap (λ (p : Beside). p.mouth.wire.intake.cou
 course_counted t starved a b does = ap (λ (p : Beside). p.mouth.wire.intake.counts) does
 course_counted t (making number result) a b does = ap (λ (p : Peers). p.mouth.wire.intake.counts) does.peers
 course_counted t (migrating result) a b does = ap (λ (p : Peers). p.mouth.wire.intake.counts) does.peers
+course_counted t (trying result) a b does = ap (λ (p : Beside). p.mouth.wire.intake.counts) does
 course_counted t (unopened why) a b does = ap (λ (p : Peers). p.mouth.wire.intake.counts) does.peers
 course_counted t (opened start (serving service)) a b does =
     let serves = does.2 in
@@ -149,27 +153,27 @@ loud words P a b is on next faults = record {
 }
 
 -- rounds end so exactly where waiting failed
-serving_fails : (words : List (List ℕ)) (n : ℕ) (close : Close) (a b c : DoorCounts) → AreWordsOf Once words → c.next ≡ a.next
+serving_fails : (words : List (List ℕ)) (n : ℕ) (close : Close) (a b c : DoorCounts) → AreServing words → c.next ≡ a.next
     → b ≡ close_counts close c
     → FailsAtDoor words (close_ending n close ≡ Err DoorFailure) a b
-serving_fails words n close a b c once same is = by close (ap (λ (k : DoorCounts). k.next) is)
+serving_fails words n close a b c serves same is = by close (ap (λ (k : DoorCounts). k.next) is)
   where
     stays : (P : Type 0) → (P → ⊥) → b.next ≡ c.next → FailsAtDoor words P a b
     stays P never next = record {
       asked = λ p. absurd (never p);
       rose = λ p. absurd (never p);
       stays = λ _. next ∙ same;
-      faults = λ other. absurd (other once);
+      faults = λ other. absurd (other serves);
     }
 
     by : (x : Close) → b.next ≡ (close_counts x c).next → FailsAtDoor words (close_ending n x ≡ Err DoorFailure) a b
     by finished next = stays _ (λ p. cc p) next
     by unreached next = record {
-      asked = λ _. inr once;
+      asked = λ _. inr serves;
       rose = λ _. inl (next ∙ ap one_more same);
       stays = λ never. absurd (never refl);
       faults =
-          λ other. absurd (other once);
+          λ other. absurd (other serves);
     }
     by (stopped came talk) next = stays _ (λ p. cc p) (next ∙ talk_next talk.end c)
     by (halted visit turn end (full e more)) next = stays _ (λ p. cc p) (next ∙ visit_next visit c)
@@ -222,6 +226,12 @@ never_moving (Err moving.Taken) is = cc is
 never_moving (Err (moving.Full end more)) is = cc is
 never_moving (Err moving.Disk) is = cc is
 
+-- no trial is one
+never_trying : (result : Result Tried TrialFault) → trying_ending result ≡ Err DoorFailure → ⊥
+never_trying (Ok numbers) is = cc is
+never_trying (Err trial.Room) is = cc is
+never_trying (Err trial.Memory) is = cc is
+
 -- a run ends with a fault of the door exactly where a call of it failed that isn't passed over
 pub course_fails : (t : Tells) (words : List (List ℕ)) (course : Course) (a b : Beside) → IsOfWords words course → CourseDoes t course a b
     → FailsAtDoor words (ending_of course ≡ Err DoorFailure) a.mouth.wire.intake.counts b.mouth.wire.intake.counts
@@ -235,11 +245,13 @@ course_fails t words (making number (Err creating.Disk)) a b of does =
     quiet words _ _ _ (λ is. cc is) (same_counts _ _ (course_counted t (making number (Err creating.Disk)) a b does))
 course_fails t words (migrating result) a b of does = quiet words _ _ _ (never_moving result)
     (same_counts _ _ (course_counted t (migrating result) a b does))
+course_fails t words (trying result) a b of does = quiet words _ _ _ (never_trying result)
+    (same_counts _ _ (course_counted t (trying result) a b does))
 course_fails t words (unopened why) a b of does = quiet words _ _ _ (never_opening why)
     (same_counts _ _ (course_counted t (unopened why) a b does))
 course_fails t words (opened start (serving service)) a b of does =
     serving_fails words _ service.close _ _ (rounds_counts service.rounds a.mouth.wire.intake.counts)
-    (record { settings = of.settings; set = of.set; is = of.is.command })
+    (record { settings = of.settings; set = of.set; serving = of.is.command })
     (rounds_next service.rounds _) (course_counted t (opened start (serving service)) a b does)
 course_fails t words (opened start (onboarding o)) a b of does =
     onboarding_ends words start o _ _ (record { settings = of.settings; set = of.set; is = of.is })

@@ -1,6 +1,6 @@
 -- Which endings the bytes of the file allow.
 use Rattle.std.proofs.Common.{◌≡◌, ◌⊎◌, ◌==◌, ℕ, List, Some, None, Result, Ok, Err, ap, subst, refl, inl, inr, length, ⊎_elim, sym, ◌∙◌}
-use Rattle.std.proofs.Common.{arith}
+use Rattle.std.proofs.Common.{arith, false, true}
 use Rattle.std.proofs.lemmas.Bool.{false≢true}
 use Rattle.executor.specs.Laws.{HasNoBadRecord}
 use Rattle.executor.specs.Open.{IsBadRecord}
@@ -17,6 +17,9 @@ use Rattle.lcm_sessions.specs.Onboarding.{unready, unheard, cut_off, heard, done
 use Rattle.lcm_sessions.specs.Verdict.{Verdict, refused, full as no_room, accepted, verdict}
 use Rattle.lcm_events.specs.declared.events.Event.{Event}
 use Rattle.lcm_sessions.specs.Session.{life}
+use Rattle.lcm_trial.specs.declared.counts.Tried.{Tried}
+use Rattle.lcm_trial.specs.declared.counts.TrialFault.{TrialFault}
+use Rattle.lcm_trial.specs.declared.counts.TrialFault.TheVariants as trial
 use Rattle.notify_outbox.specs.Delivering.{Course as Delivering, IsCourse, held, idle, sent}
 use Rattle.notify_outbox.specs.Lent.{Carrier}
 use Rattle.notify_outbox.specs.Rounds as outbox
@@ -29,7 +32,7 @@ use Rattle.site_traits.specs.Door.{DoorCounts}
 use Rattle.site_traits.specs.Site.{SiteState}
 use Rattle.vnfm_cli.specs.Causes.{FailsAtDoor}
 use Rattle.vnfm_cli.proofs.EndingLemmas.{Where}
-use Rattle.vnfm_commands.specs.Course.{Course, misused, starved, making, migrating, unopened, opened, Close, finished, unreached, stopped, halted}
+use Rattle.vnfm_commands.specs.Course.{Course, misused, starved, making, migrating, trying, unopened, opened, Close, finished, unreached, stopped, halted}
 use Rattle.vnfm_commands.specs.Course.{undelivered, full, starving, broken, bad as amiss, serving, onboarding, counting, close_ending}
 use Rattle.vnfm_commands.specs.Course.{ending_of}
 use Rattle.vnfm_commands.specs.Course.{halt_of}
@@ -45,9 +48,9 @@ use Rattle.journal_core.specs.Header.{IsUnfinished}
 use Rattle.journal_core.specs.declared.create.CreateFault.{CreateFault}
 use Rattle.journal_core.specs.declared.create.CreateFault.TheVariants as creating
 use Rattle.command_line.specs.Words.{settings_of}
-use Rattle.vnfm_commands.specs.Words.{AreInit, AreLoading, AreWordsOf, loads}
+use Rattle.vnfm_commands.specs.Words.{AreInit, AreLoading, AreServing, AreWordsOf, loads, makes_rounds}
 use Rattle.command_line.specs.declared.options.Command.{Command}
-use Rattle.command_line.specs.declared.options.Command.TheVariants.{Check, Init, Migrate, Onboard, Once}
+use Rattle.command_line.specs.declared.options.Command.TheVariants.{Check, Init, Migrate, Onboard, Once, Serve, Trial}
 use Rattle.command_line.specs.declared.options.Settings.{Settings}
 use Rattle.vnfm_commands.specs.declared.ending.Failure.TheVariants.{SiteFault, DoorFault, BadRecord}
 use Rattle.vnfm_commands.proofs.DiskLemmas.{one_fault}
@@ -63,7 +66,7 @@ pub commanded : (P : Type 0) (words : List (List ℕ)) (s : Settings) → settin
 commanded P words s some none = cc
 
 -- the course of words that set something is one of that
-of_settings : (words : List (List ℕ)) (course : Course) (s : Settings) → settings_of words ≡ Some s → IsOfSettings words course
+pub of_settings : (words : List (List ℕ)) (course : Course) (s : Settings) → settings_of words ≡ Some s → IsOfSettings words course
     → IsOf s course
 of_settings words course s set of =
     let P : Settings → Type 0 = λ x. IsOf x course in
@@ -83,6 +86,13 @@ not_migrating P words result are of =
     let migrate = of_settings words (migrating result) are.settings are.set of in
     absurd (false≢true (ap loads (sym migrate) ∙ are.loading))
 
+-- nor make a trial
+not_trying : (P : Type 0) (words : List (List ℕ)) (result : Result Tried TrialFault) → AreLoading words
+    → IsOfSettings words (trying result) → P
+not_trying P words result are of =
+    let trial = (of_settings words (trying result) are.settings are.set of).0 in
+    absurd (false≢true (ap loads (sym trial) ∙ are.loading))
+
 -- a descriptor that was judged ends with 0, 9 or 10
 verdict_status : (v : Verdict) → MayEndWith Onboard (status_of (onboarding_ending (verdict_answer v)))
 verdict_status (refused why) = inr (inr (inr refl))
@@ -100,7 +110,7 @@ abbrev pub IsTold : Type 0 → List (List ℕ) → SiteState → ℕ → Type 0
 IsTold tells words a n =
     Where (n == 5) (tells → ¬ (AreWordsOf Migrate words) → IsNoJournal a.image)
     × Where (n == 8) (tells → ¬ (AreWordsOf Migrate words) → (k : ℕ) × IsBadRecord k a.image)
-    × Where (n == 9) (AreWordsOf Onboard words ⊎ (AreWordsOf Once words ⊎ AreWordsOf Migrate words))
+    × Where (n == 9) (AreWordsOf Onboard words ⊎ (AreServing words ⊎ AreWordsOf Migrate words))
     × Where (n == 10) (AreWordsOf Onboard words)
     × Where (n == 11) (tells → ¬ (AreWordsOf Migrate words) → (m : ℕ) × AreInit m words × (IsUnfinished m a.image → ⊥))
 
@@ -165,6 +175,7 @@ ends_good t misused a b does = tt
 ends_good t starved a b does = tt
 ends_good t (making number result) a b does = tt
 ends_good t (migrating result) a b does = tt
+ends_good t (trying result) a b does = tt
 ends_good t (unopened why) a b does = tt
 ends_good t (opened start (onboarding o)) a b does = tt
 ends_good t (opened start counting) a b does = tt
@@ -174,20 +185,20 @@ ends_good t (opened start (serving service)) a b does = λ n told is.
 
 -- so it tells, by the way that the run went
 module _ (tells : Type 0) (words : List (List ℕ)) (a b : SiteState) where
-  closed_so : AreWordsOf Once words → (rounds : ℕ) (close : Close)
+  closed_so : AreServing words → (rounds : ℕ) (close : Close)
       → ((n : ℕ) → tells → close_ending rounds close ≡ Err (BadRecord n) → ⊥)
       → IsTold tells words a (status_of (close_ending rounds close))
-  closed_so once rounds finished never = (tt, tt, tt, tt, tt)
-  closed_so once rounds unreached never = (tt, tt, tt, tt, tt)
-  closed_so once rounds (stopped came talk) never = (tt, tt, tt, tt, tt)
-  closed_so once rounds (halted visit turn end (full e more)) never = (tt, tt, inr (inl once), tt, tt)
-  closed_so once rounds (halted visit turn end starving) never = (tt, tt, tt, tt, tt)
-  closed_so once rounds (halted visit turn end broken) never = (tt, tt, tt, tt, tt)
-  closed_so once rounds (halted visit turn end (amiss n)) never = (tt, (λ told other. absurd (never n told refl)), tt, tt, tt)
-  closed_so once rounds (undelivered visit turn ps end (full e more)) never = (tt, tt, inr (inl once), tt, tt)
-  closed_so once rounds (undelivered visit turn ps end starving) never = (tt, tt, tt, tt, tt)
-  closed_so once rounds (undelivered visit turn ps end broken) never = (tt, tt, tt, tt, tt)
-  closed_so once rounds (undelivered visit turn ps end (amiss n)) never = (tt, (λ told other. absurd (never n told refl)), tt, tt, tt)
+  closed_so serves rounds finished never = (tt, tt, tt, tt, tt)
+  closed_so serves rounds unreached never = (tt, tt, tt, tt, tt)
+  closed_so serves rounds (stopped came talk) never = (tt, tt, tt, tt, tt)
+  closed_so serves rounds (halted visit turn end (full e more)) never = (tt, tt, inr (inl serves), tt, tt)
+  closed_so serves rounds (halted visit turn end starving) never = (tt, tt, tt, tt, tt)
+  closed_so serves rounds (halted visit turn end broken) never = (tt, tt, tt, tt, tt)
+  closed_so serves rounds (halted visit turn end (amiss n)) never = (tt, (λ told other. absurd (never n told refl)), tt, tt, tt)
+  closed_so serves rounds (undelivered visit turn ps end (full e more)) never = (tt, tt, inr (inl serves), tt, tt)
+  closed_so serves rounds (undelivered visit turn ps end starving) never = (tt, tt, tt, tt, tt)
+  closed_so serves rounds (undelivered visit turn ps end broken) never = (tt, tt, tt, tt, tt)
+  closed_so serves rounds (undelivered visit turn ps end (amiss n)) never = (tt, (λ told other. absurd (never n told refl)), tt, tt, tt)
 
   -- the words of a course that migrates a journal
   moving_words : {result : Result ℕ MigrateFault} → IsOfSettings words (migrating result) → AreWordsOf Migrate words
@@ -221,12 +232,15 @@ module _ (tells : Type 0) (words : List (List ℕ)) (a b : SiteState) where
   told_so (migrating (Err moving.Taken)) of at good = (tt, tt, tt, tt, λ told other. absurd (other (moving_words of)))
   told_so (migrating (Err (moving.Full end more))) of at good = (tt, tt, inr (inr (moving_words of)), tt, tt)
   told_so (migrating (Err moving.Disk)) of at good = (tt, tt, tt, tt, tt)
+  told_so (trying (Ok numbers)) of at good = (tt, tt, tt, tt, tt)
+  told_so (trying (Err trial.Room)) of at good = (tt, tt, tt, tt, tt)
+  told_so (trying (Err trial.Memory)) of at good = (tt, tt, tt, tt, tt)
   told_so (unopened opening.Unmade) of at good = ((λ told other. inl (at told).because), tt, tt, tt, tt)
   told_so (unopened (opening.Foreign place)) of at good = ((λ told other. inr (place, (at told).because)), tt, tt, tt, tt)
   told_so (unopened (opening.BadRecord n)) of at good = (tt, (λ told other. (n, (at told).because)), tt, tt, tt)
   told_so (unopened opening.Disk) of at good = (tt, tt, tt, tt, tt)
   told_so (unopened opening.Memory) of at good = (tt, tt, tt, tt, tt)
-  told_so (opened start (serving service)) of at good = closed_so (record { settings = of.settings; set = of.set; is = of.is.command }) _
+  told_so (opened start (serving service)) of at good = closed_so (record { settings = of.settings; set = of.set; serving = of.is.command }) _
       service.close good
   told_so (opened start (onboarding unready)) of at good = (tt, tt, tt, tt, tt)
   told_so (opened start (onboarding unheard)) of at good = (tt, tt, tt, tt, tt)
@@ -255,6 +269,11 @@ pub never_served : (P : Type 0) (s : Settings) (command : Command) (c : Command)
     → P
 never_served P s command c one other different = absurd (different (sym one ∙ other))
 
+-- settings of a command that makes no rounds aren't those of rounds
+pub never_rounds : (P : Type 0) (s : Settings) (command : Command) → s.command ≡ command → makes_rounds s.command ≡ true
+    → makes_rounds command ≡ false → P
+never_rounds P s command is rounds none = absurd (false≢true (sym none ∙ ap makes_rounds (sym is) ∙ rounds))
+
 -- a file that isn't unfinished for the manager is told so
 pub taken_ending : (course : Course) (words : List (List ℕ)) (a b : SiteState) (m : ℕ) → AreInit m words → IsOfWords words course
     → AtFile course a b
@@ -268,10 +287,12 @@ taken_ending (making number (Err creating.Taken)) words a b m are of at not = in
 taken_ending (making number (Err creating.Disk)) words a b m are of at not = inr (inl refl)
 taken_ending (migrating result) words a b m are of at not = let it = of_init m words (migrating result) are of in
     never_served _ it.0 Init Migrate it.1 it.3 (λ wrong. cc)
+taken_ending (trying result) words a b m are of at not = let it = of_init m words (trying result) are of in
+    never_served _ it.0 Init Trial it.1 it.3.0 (λ wrong. cc)
 taken_ending (unopened why) words a b m are of at not = let it = of_init m words (unopened why) are of in
     never_unopened _ it.0 why it.1 it.3
 taken_ending (opened start (serving service)) words a b m are of at not = let it =
-    of_init m words (opened start (serving service)) are of in never_served _ it.0 Init Once it.1 it.3.command (λ wrong. cc)
+    of_init m words (opened start (serving service)) are of in never_rounds _ it.0 Init it.1 it.3.command refl
 taken_ending (opened start (onboarding o)) words a b m are of at not = let it = of_init m words (opened start (onboarding o)) are of in
     never_served _ it.0 Init Onboard it.1 it.3 (λ wrong. cc)
 taken_ending (opened start counting) words a b m are of at not = let it = of_init m words (opened start counting) are of in
@@ -290,9 +311,11 @@ made_ending (making number (Err creating.Taken)) words a b m are of at is = absu
 made_ending (making number (Err creating.Disk)) words a b m are of at is = absurd (omega (arith, is))
 made_ending (migrating result) words a b m are of at is = let it = of_init m words (migrating result) are of in
     never_served _ it.0 Init Migrate it.1 it.3 (λ wrong. cc)
+made_ending (trying result) words a b m are of at is = let it = of_init m words (trying result) are of in
+    never_served _ it.0 Init Trial it.1 it.3.0 (λ wrong. cc)
 made_ending (unopened why) words a b m are of at is = let it = of_init m words (unopened why) are of in never_unopened _ it.0 why it.1 it.3
 made_ending (opened start (serving service)) words a b m are of at is = let it = of_init m words (opened start (serving service)) are of in
-    never_served _ it.0 Init Once it.1 it.3.command (λ wrong. cc)
+    never_rounds _ it.0 Init it.1 it.3.command refl
 made_ending (opened start (onboarding o)) words a b m are of at is = let it = of_init m words (opened start (onboarding o)) are of in
     never_served _ it.0 Init Onboard it.1 it.3 (λ wrong. cc)
 made_ending (opened start counting) words a b m are of at is = let it = of_init m words (opened start counting) are of in
@@ -308,10 +331,12 @@ complete_init (making number (Err creating.Taken)) words a b are of disk = inr (
 complete_init (making number (Err creating.Disk)) words a b are of disk = absurd (disk refl)
 complete_init (migrating result) words a b are of disk = let it = of_command Init words (migrating result) are of in
     never_served _ it.0 Init Migrate it.1 it.2 (λ wrong. cc)
+complete_init (trying result) words a b are of disk = let it = of_command Init words (trying result) are of in
+    never_served _ it.0 Init Trial it.1 it.2.0 (λ wrong. cc)
 complete_init (unopened why) words a b are of disk = let it = of_command Init words (unopened why) are of in
     never_unopened _ it.0 why it.1 it.2
 complete_init (opened start (serving service)) words a b are of disk = let it =
-    of_command Init words (opened start (serving service)) are of in never_served _ it.0 Init Once it.1 it.2.command (λ wrong. cc)
+    of_command Init words (opened start (serving service)) are of in never_rounds _ it.0 Init it.1 it.2.command refl
 complete_init (opened start (onboarding o)) words a b are of disk = let it = of_command Init words (opened start (onboarding o)) are of in
     never_served _ it.0 Init Onboard it.1 it.2 (λ wrong. cc)
 complete_init (opened start counting) words a b are of disk = let it = of_command Init words (opened start counting) are of in
@@ -338,9 +363,16 @@ same_command : (words : List (List ℕ)) (c d : Command) → AreWordsOf c words 
 same_command words c d are other = sym are.is ∙ ap (λ (s : Settings). s.command)
     (set_once words are.settings other.settings are.set other.set) ∙ other.is
 
--- words of another command aren't those of `migrate`
-pub not_migrate : (command : Command) (words : List (List ℕ)) → (command ≡ Migrate → ⊥) → AreWordsOf command words → AreWordsOf Migrate words → ⊥
-not_migrate command words other are also = other (same_command words command Migrate are also)
+-- words of another command than this aren't its words
+pub not_words : (command this : Command) (words : List (List ℕ)) → (command ≡ this → ⊥) → AreWordsOf command words → AreWordsOf this words → ⊥
+not_words command this words other are also = other (same_command words command this are also)
+
+-- words of a command that makes no rounds make none
+pub not_serving : (command : Command) (words : List (List ℕ)) → makes_rounds command ≡ false → AreWordsOf command words → AreServing words → ⊥
+not_serving command words none are serves =
+    let same : makes_rounds command ≡ true = ap makes_rounds (sym are.is)
+    ∙ ap (λ (s : Settings). makes_rounds s.command) (set_once words are.settings serves.settings are.set serves.set) ∙ serves.serving in
+    false≢true (sym none ∙ same)
 
 -- why the door failed for the command of these words
 pub door_cause : (command : Command) (words : List (List ℕ)) (failed : Type 0) (a b : DoorCounts) → AreWordsOf command words
@@ -350,18 +382,26 @@ door_cause Init words failed a b are fails is = ⊎_elim
     (λ (on : AreWordsOf Onboard words × (b.next ≡ a.next)). let same = same_command words Init Onboard are on.0 in cc)
     (fails.rose is)
 door_cause Onboard words failed a b are fails is =
-    inr (one_fault a.faults b.faults ((fails.faults (λ once. let same = same_command words Onboard Once are once in cc)).0 is))
+    inr (one_fault a.faults b.faults ((fails.faults (not_serving Onboard words refl are)).0 is))
 door_cause Once words failed a b are fails is = ⊎_elim
     (λ (next : b.next ≡ one_more a.next). one_fault a.next b.next next)
     (λ (on : AreWordsOf Onboard words × (b.next ≡ a.next)). let same = same_command words Once Onboard are on.0 in cc)
     (fails.rose is)
+door_cause Serve words failed a b are fails is = ⊎_elim
+    (λ (next : b.next ≡ one_more a.next). one_fault a.next b.next next)
+    (λ (on : AreWordsOf Onboard words × (b.next ≡ a.next)). let same = same_command words Serve Onboard are on.0 in cc)
+    (fails.rose is)
 door_cause Check words failed a b are fails is = ⊎_elim
     (λ (on : AreWordsOf Onboard words). let same = same_command words Check Onboard are on in cc)
-    (λ (once : AreWordsOf Once words). let same = same_command words Check Once are once in cc)
+    (not_serving Check words refl are)
     (fails.asked is)
 door_cause Migrate words failed a b are fails is = ⊎_elim
     (λ (on : AreWordsOf Onboard words). let same = same_command words Migrate Onboard are on in cc)
-    (λ (once : AreWordsOf Once words). let same = same_command words Migrate Once are once in cc)
+    (not_serving Migrate words refl are)
+    (fails.asked is)
+door_cause Trial words failed a b are fails is = ⊎_elim
+    (λ (on : AreWordsOf Onboard words). let same = same_command words Trial Onboard are on in cc)
+    (not_serving Trial words refl are)
     (fails.asked is)
 
 -- what is known of files
@@ -388,6 +428,7 @@ module _ (whole_unmade : IsWholeOrUnmade) (whole_foreign : IsWholeOrForeign) (he
   no_journal_ending starved words a b are of at none = inr (inr refl)
   no_journal_ending (making number result) words a b are of at none = not_making _ words number result are of
   no_journal_ending (migrating result) words a b are of at none = not_migrating _ words result are of
+  no_journal_ending (trying result) words a b are of at none = not_trying _ words result are of
   no_journal_ending (unopened opening.Unmade) words a b are of at none = inl refl
   no_journal_ending (unopened (opening.Foreign place)) words a b are of at none = inl refl
   no_journal_ending (unopened (opening.BadRecord n)) words a b are of at none = absurd (bad_journal n a.image at.because none)
@@ -403,6 +444,7 @@ module _ (whole_unmade : IsWholeOrUnmade) (whole_foreign : IsWholeOrForeign) (he
   bad_record_ending starved words a b n are of legal at bad = inr (inr refl)
   bad_record_ending (making number result) words a b n are of legal at bad = not_making _ words number result are of
   bad_record_ending (migrating result) words a b n are of legal at bad = not_migrating _ words result are of
+  bad_record_ending (trying result) words a b n are of legal at bad = not_trying _ words result are of
   bad_record_ending (unopened opening.Unmade) words a b n are of legal at bad = absurd (bad_journal n a.image bad (inl at.because))
   bad_record_ending (unopened (opening.Foreign place)) words a b n are of legal at bad =
       absurd (bad_journal n a.image bad (inr (place, at.because)))
@@ -434,9 +476,11 @@ module _ (whole_unmade : IsWholeOrUnmade) (whole_foreign : IsWholeOrForeign) (he
       of_command Onboard words (making number result) are of in never_served _ it.0 Onboard Init it.1 it.2.0 (λ wrong. cc)
   complete_onboard (migrating result) words a b m H are sound of at disk door = let it =
       of_command Onboard words (migrating result) are of in never_served _ it.0 Onboard Migrate it.1 it.2 (λ wrong. cc)
+  complete_onboard (trying result) words a b m H are sound of at disk door = let it =
+      of_command Onboard words (trying result) are of in never_served _ it.0 Onboard Trial it.1 it.2.0 (λ wrong. cc)
   complete_onboard (unopened why) words a b m H are sound of at disk door = inr (inl (sound_unopened why m H a b sound at disk))
   complete_onboard (opened start (serving service)) words a b m H are sound of at disk door = let it =
-      of_command Onboard words (opened start (serving service)) are of in never_served _ it.0 Onboard Once it.1 it.2.command (λ wrong. cc)
+      of_command Onboard words (opened start (serving service)) are of in never_rounds _ it.0 Onboard it.1 it.2.command refl
   complete_onboard (opened start (onboarding unready)) words a b m H are sound of at disk door = inr (inl refl)
   complete_onboard (opened start (onboarding unheard)) words a b m H are sound of at disk door = absurd (door refl)
   complete_onboard (opened start (onboarding (cut_off bytes))) words a b m H are sound of at disk door = absurd (door refl)
@@ -447,28 +491,30 @@ module _ (whole_unmade : IsWholeOrUnmade) (whole_foreign : IsWholeOrForeign) (he
   complete_onboard (opened start counting) words a b m H are sound of at disk door = let it =
       of_command Onboard words (opened start counting) are of in never_served _ it.0 Onboard Check it.1 it.2 (λ wrong. cc)
 
-  -- `once` ends with 0, 6 or 9 from a sound start, unless the disk or the door failed
-  complete_once : (tells : Type 0) → tells → (course : Course) (words : List (List ℕ)) (a b : SiteState) (m : ℕ) (H : List Event)
-      → AreWordsOf Once words
+  -- a command that makes rounds ends with 0, 6 or 9 from a sound start, unless the disk or the door failed
+  complete_rounds : (tells : Type 0) → tells → (command : Command) → makes_rounds command ≡ true → (course : Course)
+      (words : List (List ℕ)) (a b : SiteState) (m : ℕ) (H : List Event) → AreWordsOf command words
       → IsSoundStart m H a → IsOfWords words course
       → AtFile course a b → (ending_of course ≡ Err SiteFault → ⊥) → (ending_of course ≡ Err DoorFault → ⊥)
       → EndsGood tells course
       → MayEndWith Once (status_of (ending_of course))
-  complete_once tells told misused words a b m H are sound of at disk door good = commanded _ words are.settings are.set of
-  complete_once tells told starved words a b m H are sound of at disk door good = inr (inl refl)
-  complete_once tells told (making number result) words a b m H are sound of at disk door good = let it =
-      of_command Once words (making number result) are of in never_served _ it.0 Once Init it.1 it.2.0 (λ wrong. cc)
-  complete_once tells told (migrating result) words a b m H are sound of at disk door good = let it =
-      of_command Once words (migrating result) are of in never_served _ it.0 Once Migrate it.1 it.2 (λ wrong. cc)
-  complete_once tells told (unopened why) words a b m H are sound of at disk door good =
+  complete_rounds tells told command rounds misused words a b m H are sound of at disk door good = commanded _ words are.settings are.set of
+  complete_rounds tells told command rounds starved words a b m H are sound of at disk door good = inr (inl refl)
+  complete_rounds tells told command rounds (making number result) words a b m H are sound of at disk door good = let it =
+      of_command command words (making number result) are of in never_rounds _ it.0 Init it.2.0 (ap makes_rounds it.1 ∙ rounds) refl
+  complete_rounds tells told command rounds (migrating result) words a b m H are sound of at disk door good = let it =
+      of_command command words (migrating result) are of in never_rounds _ it.0 Migrate it.2 (ap makes_rounds it.1 ∙ rounds) refl
+  complete_rounds tells told command rounds (trying result) words a b m H are sound of at disk door good = let it =
+      of_command command words (trying result) are of in never_rounds _ it.0 Trial it.2.0 (ap makes_rounds it.1 ∙ rounds) refl
+  complete_rounds tells told command rounds (unopened why) words a b m H are sound of at disk door good =
       inr (inl (sound_unopened why m H a b sound at disk))
-  complete_once tells told (opened start (serving service)) words a b m H are sound of at disk door good =
-      rounds_done _ service.close disk door
-      (λ n is. good n told is)
-  complete_once tells told (opened start (onboarding o)) words a b m H are sound of at disk door good = let it =
-      of_command Once words (opened start (onboarding o)) are of in never_served _ it.0 Once Onboard it.1 it.2 (λ wrong. cc)
-  complete_once tells told (opened start counting) words a b m H are sound of at disk door good = let it =
-      of_command Once words (opened start counting) are of in never_served _ it.0 Once Check it.1 it.2 (λ wrong. cc)
+  complete_rounds tells told command rounds (opened start (serving service)) words a b m H are sound of at disk door good =
+      rounds_done _ service.close disk door (λ n is. good n told is)
+  complete_rounds tells told command rounds (opened start (onboarding o)) words a b m H are sound of at disk door good = let it =
+      of_command command words (opened start (onboarding o)) are of in
+      never_rounds _ it.0 Onboard it.2 (ap makes_rounds it.1 ∙ rounds) refl
+  complete_rounds tells told command rounds (opened start counting) words a b m H are sound of at disk door good = let it =
+      of_command command words (opened start counting) are of in never_rounds _ it.0 Check it.2 (ap makes_rounds it.1 ∙ rounds) refl
 
   -- `check` ends with 0 or 6 from a sound start, unless the disk failed
   complete_check : (course : Course) (words : List (List ℕ)) (a b : SiteState) (m : ℕ) (H : List Event) → AreWordsOf Check words
@@ -480,24 +526,30 @@ module _ (whole_unmade : IsWholeOrUnmade) (whole_foreign : IsWholeOrForeign) (he
       of_command Check words (making number result) are of in never_served _ it.0 Check Init it.1 it.2.0 (λ wrong. cc)
   complete_check (migrating result) words a b m H are sound of at disk = let it =
       of_command Check words (migrating result) are of in never_served _ it.0 Check Migrate it.1 it.2 (λ wrong. cc)
+  complete_check (trying result) words a b m H are sound of at disk = let it =
+      of_command Check words (trying result) are of in never_served _ it.0 Check Trial it.1 it.2.0 (λ wrong. cc)
   complete_check (unopened why) words a b m H are sound of at disk = inr (sound_unopened why m H a b sound at disk)
   complete_check (opened start (serving service)) words a b m H are sound of at disk = let it =
-      of_command Check words (opened start (serving service)) are of in never_served _ it.0 Check Once it.1 it.2.command (λ wrong. cc)
+      of_command Check words (opened start (serving service)) are of in never_rounds _ it.0 Check it.1 it.2.command refl
   complete_check (opened start (onboarding o)) words a b m H are sound of at disk = let it =
       of_command Check words (opened start (onboarding o)) are of in never_served _ it.0 Check Onboard it.1 it.2 (λ wrong. cc)
   complete_check (opened start counting) words a b m H are sound of at disk = inl refl
 
-  -- from a sound start a command but `migrate` does its work or is refused, unless a call failed or there was no memory
+  -- from a sound start a command but `migrate` and `trial` does its work or is refused, unless a call failed or there was
+  -- no memory
   pub complete_ending : (tells : Type 0) → tells → (command : Command) (course : Course) (words : List (List ℕ)) (a b : SiteState)
-      → (command ≡ Migrate → ⊥) → AreWordsOf command words
+      → (command ≡ Migrate → ⊥) → (command ≡ Trial → ⊥) → AreWordsOf command words
       → IsStartOf command a → IsOfWords words course
       → AtFile course a b → (ending_of course ≡ Err SiteFault → ⊥) → (ending_of course ≡ Err DoorFault → ⊥) → EndsGood tells course
       → MayEndWith command (status_of (ending_of course))
-  complete_ending tells told Init course words a b other are start of at disk door good = complete_init course words a b are of disk
-  complete_ending tells told Onboard course words a b other are start of at disk door good =
+  complete_ending tells told Init course words a b other another are start of at disk door good = complete_init course words a b are of disk
+  complete_ending tells told Onboard course words a b other another are start of at disk door good =
       complete_onboard course words a b start.0 start.1 are start.2 of at disk door
-  complete_ending tells told Once course words a b other are start of at disk door good =
-      complete_once tells told course words a b start.0 start.1 are start.2 of at disk door good
-  complete_ending tells told Check course words a b other are start of at disk door good =
+  complete_ending tells told Once course words a b other another are start of at disk door good =
+      complete_rounds tells told Once refl course words a b start.0 start.1 are start.2 of at disk door good
+  complete_ending tells told Serve course words a b other another are start of at disk door good =
+      complete_rounds tells told Serve refl course words a b start.0 start.1 are start.2 of at disk door good
+  complete_ending tells told Check course words a b other another are start of at disk door good =
       complete_check course words a b start.0 start.1 are start.2 of at disk
-  complete_ending tells told Migrate course words a b other are start of at disk door good = absurd (other refl)
+  complete_ending tells told Migrate course words a b other another are start of at disk door good = absurd (other refl)
+  complete_ending tells told Trial course words a b other another are start of at disk door good = absurd (another refl)

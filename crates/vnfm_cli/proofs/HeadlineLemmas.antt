@@ -1,6 +1,6 @@
 -- What a stop leaves of a run, from what the run does to the site.
 use Rattle.std.proofs.Common.{◌≡◌, ◌∙◌, ◌<◌, ◌⊎◌, ℕ, List, [], ◌∷◌, Result, inl, inr, subst, sym, refl, arith, ⊎_elim}
-use Rattle.command_line.specs.declared.options.Command.TheVariants.{Check, Init, Migrate, Onboard, Once}
+use Rattle.command_line.specs.declared.options.Command.TheVariants.{Check, Init, Migrate, Onboard}
 use Rattle.executor.specs.Chain.{AreTold, StaysSince}
 use Rattle.executor.specs.History.{HasHistory, spellings}
 use Rattle.executor.specs.Laws.{HasOneHistory}
@@ -18,14 +18,14 @@ use Rattle.lcm_model.specs.Work.{window}
 use Rattle.site_traits.specs.Jobs.{Advances, Job}
 use Rattle.site_traits.specs.Moments.{goes_on, joined, started, weakened}
 use Rattle.site_traits.specs.Site.{FileStep, HasItsJobs, KeepsJobs, LeavesOnly, Pair, Same, SiteState}
-use Rattle.vnfm_commands.specs.Course.{Course, misused, starved, making, migrating, unopened, opened, serving, onboarding, counting}
+use Rattle.vnfm_commands.specs.Course.{Course, misused, starved, making, migrating, trying, unopened, opened, serving, onboarding, counting}
 use Rattle.vnfm_commands.specs.Course.{activity_work}
 use Rattle.vnfm_commands.specs.Course.{told_by, told_of, IsOfWords}
 use Rattle.vnfm_cli.specs.Headline.{AreStanding, IsFresh, IsFreshPair, IsLeftWith, IsSoundBeginning, IsSoundPair, SoundJobsMakeSoundPairs}
 use Rattle.vnfm_cli.specs.Headline.{StandsSince}
 use Rattle.vnfm_commands.specs.Runs.{AtFile, AtJobs, IsLegalCourse, IsUntouched, Recovers, ToldIn}
 use Rattle.vnfm_commands.specs.Words.{AreInit}
-use Rattle.vnfm_cli.proofs.ExactLemmas.{commanded, never_served, never_unopened, of_init}
+use Rattle.vnfm_cli.proofs.ExactLemmas.{commanded, never_rounds, never_served, never_unopened, of_init}
 
 -- a site that wasn't called leaves what it left
 pub untouched_leaves : (P : Pair → Type 0) (a b : SiteState) → IsUntouched a b → ((p : Pair) → a.since a.moment p → P p) → LeavesOnly P a b
@@ -104,6 +104,7 @@ module _ (whole : IsWholeOrUnmade) (once : HasOneHistory) (may_end : JobsMayEnd)
   acknowledged tells told starved before now a b at legal are m H start = are
   acknowledged tells told (making number result) before now a b at legal are m H start = are
   acknowledged tells told (migrating result) before now a b at legal are m H start = are
+  acknowledged tells told (trying result) before now a b at legal are m H start = are
   acknowledged tells told (unopened why) before now a b at legal are m H start = are
   acknowledged tells told (opened begun activity) before now a b at legal are m H start =
       let w : Work = activity_work begun.number begun.saved begun.history activity in
@@ -121,6 +122,7 @@ module _ (whole : IsWholeOrUnmade) (once : HasOneHistory) (may_end : JobsMayEnd)
   leaves_sound (making number result) a b at legal m H start =
       reads_leave m H a b start (at.kept (λ unfinished. whole m (spellings H) a.image start.start.start.file.file (number, unfinished))).0
   leaves_sound (migrating result) a b at legal m H start = reads_leave m H a b start at
+  leaves_sound (trying result) a b at legal m H start = untouched_leaves (IsSoundPair m H) a b at (begins m H a start)
   leaves_sound (unopened why) a b at legal m H start = reads_leave m H a b start at.reads
   leaves_sound (opened begun activity) a b at legal m H start =
       recovery_leaves m begun.number H begun.history (activity_work begun.number begun.saved begun.history activity) a b legal.number at start
@@ -153,10 +155,11 @@ leaves_fresh (making number result) words a b of at jobs m are fresh =
     making_leaves m result a b (subst (λ (k : ℕ). Creates k result a b) same at) jobs fresh
 leaves_fresh (migrating result) words a b of at jobs m are fresh = let it = of_init m words (migrating result) are of in
     never_served _ it.0 Init Migrate it.1 it.3 (λ wrong. cc)
+leaves_fresh (trying result) words a b of at jobs m are fresh = untouched_leaves (IsFreshPair m) a b at (fresh_pair m a fresh)
 leaves_fresh (unopened why) words a b of at jobs m are fresh = let it = of_init m words (unopened why) are of in
     never_unopened _ it.0 why it.1 it.3
 leaves_fresh (opened start (serving service)) words a b of at jobs m are fresh = let it =
-    of_init m words (opened start (serving service)) are of in never_served _ it.0 Init Once it.1 it.3.command (λ wrong. cc)
+    of_init m words (opened start (serving service)) are of in never_rounds _ it.0 Init it.1 it.3.command refl
 leaves_fresh (opened start (onboarding o)) words a b of at jobs m are fresh = let it =
     of_init m words (opened start (onboarding o)) are of in never_served _ it.0 Init Onboard it.1 it.3 (λ wrong. cc)
 leaves_fresh (opened start counting) words a b of at jobs m are fresh = let it = of_init m words (opened start counting) are of in

@@ -7,3 +7,4 @@ mod ExactLemmas
 mod HeadlineLemmas
 mod MigrationLemmas
 mod WholeLemmas
+mod TrialLemmas

@@ -5,3 +5,4 @@ pub mod Headline
 pub mod Laws
 pub mod Migration
 pub mod Promises
+pub mod Trial

@@ -1,7 +1,7 @@
 -- What a run promises, over all that it works with and the sink of its line (own rule, docs/FORMATS.md).
 use Rattle.std.specs.Prelude.{◌≡◌, ◌<◌, ◌++◌, ℕ, List}
 use Rattle.command_line.specs.declared.options.Command.{Command}
-use Rattle.command_line.specs.declared.options.Command.TheVariants.{Check, Migrate, Once}
+use Rattle.command_line.specs.declared.options.Command.TheVariants.{Check, Migrate, Trial}
 use Rattle.lcm_events.specs.declared.events.Event.{Event}
 use Rattle.occ_work.specs.Around.{CountJobsAlike, DiskFails}
 use Rattle.site_traits.specs.Counts.{Rose}
@@ -14,7 +14,7 @@ use Rattle.vnfm_commands.specs.Ending.{Ends, Output, totals_line}
 use Rattle.vnfm_commands.specs.Outside.{Outside, Tells}
 use Rattle.vnfm_commands.specs.Runs.{IsDoorCause, IsStartOf, MayEndWith, Runs}
 use Rattle.vnfm_commands.specs.Totals.{totals_of}
-use Rattle.vnfm_commands.specs.Words.{AreInit, AreWordsOf}
+use Rattle.vnfm_commands.specs.Words.{AreInit, AreServing, AreWordsOf}
 
 -- all that a run works with, and the sink of its line
 pub record Ground : Type 1 where
@@ -63,11 +63,12 @@ TellsTotals words status a b =
     AreWordsOf Check words → status ≡ 0 → (m : ℕ) (H : List Event) → m < 4294967296
     → HasHistory m H a.outside.site.image → b.lines.bytes ≡ a.lines.bytes ++ totals_line (totals_of H)
 
--- a command but `migrate`, of which `MigratesAs` tells, ends with one of its statuses from a sound start where no call of
--- the disk, of the door or of the sink failed
+-- a command but `migrate` and `trial`, of which `MigratesAs` and `TriesAs` tell, ends with one of its statuses from a sound
+-- start where no call of the disk, of the door or of the sink failed
 abbrev pub IsComplete : List (List ℕ) → ℕ → Ground → Ground → Type 0
 IsComplete words status a b =
-    (command : Command) → ¬ (command ≡ Migrate) → AreWordsOf command words → IsStartOf command a.outside.site
+    (command : Command) → ¬ (command ≡ Migrate) → ¬ (command ≡ Trial) → AreWordsOf command words
+    → IsStartOf command a.outside.site
     → ¬ (Rose a.outside.counts.disk b.outside.counts.disk)
     → ¬ (IsDoorCause command a.outside.mouth.wire.intake.counts b.outside.mouth.wire.intake.counts)
     → ¬ (Rose a.lines.counts.faults b.lines.counts.faults)
@@ -85,7 +86,8 @@ pub record Promises (t : Tells) (lines : Type 0) (words : List (List ℕ)) (stat
   pub beginning : t.site → StaysFresh words a b
   pub unchanged : t.site → ChangesNothing words a b
   pub totals : t.site → lines → TellsTotals words status a b
-  pub disk : ¬ (AreWordsOf Migrate words) → DiskFails (status ≡ 3) a.outside.counts b.outside.counts
-  pub untouched_jobs : ¬ (AreWordsOf Once words) → CountJobsAlike a.outside.counts b.outside.counts
+  pub disk : ¬ (AreWordsOf Migrate words) → ¬ (AreWordsOf Trial words)
+      → DiskFails (status ≡ 3) a.outside.counts b.outside.counts
+  pub untouched_jobs : ¬ (AreServing words) → CountJobsAlike a.outside.counts b.outside.counts
   pub causes : HasCauses t.site words status a.outside b.outside a.lines b.lines
   pub complete : t.site → IsComplete words status a b

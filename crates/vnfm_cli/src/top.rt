@@ -1,12 +1,13 @@
 //! The top call: one command over the objects that it is handed.
 ghost use Rattle.std.specs.Prelude.{◌≡◌};
-ghost use Rattle.command_line.specs.declared.options.Command.TheVariants.{Migrate, Onboard, Once};
+ghost use Rattle.command_line.specs.declared.options.Command.TheVariants.{Migrate, Onboard, Trial};
 ghost use Rattle.vnfm_cli.specs.Migration.{MigratesAs};
 ghost use Rattle.vnfm_cli.specs.Promises.{Promises, ground_of};
+ghost use Rattle.vnfm_cli.specs.Trial.{TriesAs};
 ghost use Rattle.vnfm_commands.specs.Ending.{output_of};
 ghost use Rattle.vnfm_commands.specs.Moving.{spare_of};
 ghost use Rattle.vnfm_commands.specs.Outside.{outside, telling};
-ghost use Rattle.vnfm_commands.specs.Words.{AreWordsOf};
+ghost use Rattle.vnfm_commands.specs.Words.{AreServing, AreWordsOf};
 
 use crate::laws::sound_jobs_make_sound_pairs;
 use executor::{a_file_has_one_history, a_legal_history_has_no_bad_record};
@@ -34,22 +35,26 @@ use vnfm_commands::{finish, obey};
 ///   occurrence on by what was answered. Then, at the moment of the turn, it makes one delivery, in the order of their
 ///   numbers, for each live subscription: the courier posts the first notice that waits, and what became of it is
 ///   recorded. Rounds go on where nobody comes any more.
+/// - `serve --journal PATH --listen ADDR --em-listen ADDR` is `once` but for its rounds, which are 4,294,967,295 where
+///   `--rounds` doesn't say, and for the role of a connection, which is the one that the door says.
 /// - `check --journal PATH` opens the journal and counts its records, the instances and the subscriptions that aren't
 ///   deleted, and the operations that go on. It changes nothing, and asks neither the door nor the clock.
 /// - `migrate --journal PATH --to PATH` reads the journal of format 1 in the site's file, which stays as it is, and makes
 ///   the spare's file of it: a journal of the present format with the same manager and the same events. It asks neither
 ///   the door nor the clock. A stop within leaves an unfinished file unfinished, or the journal whole; every other
 ///   command leaves the spare alone.
+/// - `trial --start N --count N` makes the trial of these numbers in memory (`lcm_trial::make_trial`), and calls nothing
+///   that it is handed but `out`, to which it puts three lines.
 ///
 /// From a sound beginning a stop leaves, whenever it comes, a journal with all that it had and jobs that are sound with
 /// it: each change stands at most once, and none ungranted. From the moment at which a reply was told on, whenever a
 /// stop comes, that journal has all that was done up to the reply.
 ///
-/// The orchestrator, the infrastructure and the courier are asked by `once` alone, and `--orchestrator` and `--vim` are
-/// used by nothing.
+/// The orchestrator, the infrastructure and the courier are asked by `once` and `serve` alone, and `--orchestrator`,
+/// `--vim`, `--listen` and `--em-listen` are used by nothing.
 /// Statuses: 0 the command did its work; 2 the words are no command; 3 exactly where a disk call failed, in an act or a
-/// delivery too, after which no other is made; 4 exactly where waiting for a connection failed, or a read of a
-/// descriptor, so never after `init`, `check` or `migrate`; 5 the file is no journal, of `migrate` none of format 1; 6 there is no memory; 7 the line of status 0
+/// delivery too, after which no other is made, and of `trial` where its journal passes its room; 4 exactly where waiting for a connection failed, or a read of a
+/// descriptor, so never after `init`, `check`, `migrate` or `trial`; 5 the file is no journal, of `migrate` none of format 1; 6 there is no memory; 7 the line of status 0
 /// couldn't be put; 8 a record is bad, which is found out at the opening where the site tells its content, and else
 /// perhaps where a delivery reads it back; 9 the journal has no room for the descriptor, or for an event of an act or a
 /// delivery, or the migrated one would pass a file's limit; 10 the descriptor is refused; 11 the file isn't unfinished
@@ -85,10 +90,13 @@ pub fn run<S: Site, T: Site, D: Door, O: Orchestrator, C: Courier, K: Clock, W: 
         (O.counts orchestrator.new) (C.state courier.new) (C.counts courier.new) (K.state clock.new))
         (output_of W.state W.counts out.new))
         (spare_of (T.state spare.old) (T.counts spare.old)) (spare_of (T.state spare.new) (T.counts spare.new)) }
-    ensures unasked { ¬ (AreWordsOf Once words.now) → orchestrator.new ≡ orchestrator.old }
-    ensures unposted { ¬ (AreWordsOf Once words.now) → courier.new ≡ courier.old }
-    ensures unheard { ¬ (AreWordsOf Onboard words.now) → ¬ (AreWordsOf Once words.now) → mouth.new ≡ mouth.old }
-    ensures untimed { ¬ (AreWordsOf Onboard words.now) → ¬ (AreWordsOf Once words.now) → clock.new ≡ clock.old }
+    ensures trial { TriesAs W.tells words.now result (output_of W.state W.counts out.old)
+        (output_of W.state W.counts out.new) }
+    ensures uncalled { AreWordsOf Trial words.now → site.new ≡ site.old }
+    ensures unasked { ¬ (AreServing words.now) → orchestrator.new ≡ orchestrator.old }
+    ensures unposted { ¬ (AreServing words.now) → courier.new ≡ courier.old }
+    ensures unheard { ¬ (AreWordsOf Onboard words.now) → ¬ (AreServing words.now) → mouth.new ≡ mouth.old }
+    ensures untimed { ¬ (AreWordsOf Onboard words.now) → ¬ (AreServing words.now) → clock.new ≡ clock.old }
 {
     files_are_one_thing();
     a_legal_history_has_no_bad_record();

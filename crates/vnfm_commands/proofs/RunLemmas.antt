@@ -1,5 +1,5 @@
 -- Opening a journal, and what is then done with it.
-use Rattle.std.proofs.Common.{◌≡◌, ◌∙◌, ◌<◌, ◌+◌, ℕ, List, Some, None, Err, ap, refl, subst, sym}
+use Rattle.std.proofs.Common.{◌≡◌, ◌⊎◌, inl, inr, true, ◌∙◌, ◌<◌, ◌+◌, ℕ, List, Some, None, Err, ap, refl, subst, sym}
 use Rattle.executor.proofs.ChainLemmas.{told_since}
 use Rattle.executor.specs.Chain.{AreTold}
 use Rattle.executor.specs.History.{HasHistory}
@@ -15,14 +15,14 @@ use Rattle.lcm_mouth.specs.Mouth.{MouthState}
 use Rattle.site_traits.specs.Counts.{CallCounts, OnlyDiskFails, SiteCounts}
 use Rattle.site_traits.specs.Peers.{OrchestratorState, Post}
 use Rattle.site_traits.specs.Site.{KeepsJobs, SiteState}
-use Rattle.vnfm_commands.specs.Course.{Course, misused, starved, making, migrating, opened, unopened, Activity, serving, onboarding, counting, IsOf}
-use Rattle.vnfm_commands.specs.Course.{IsOfWords, Opening, activity_work, told_by, unset}
+use Rattle.vnfm_commands.specs.Course.{Course, misused, starved, making, migrating, trying, opened, unopened, Activity, serving, onboarding, counting, IsOf}
+use Rattle.vnfm_commands.specs.Course.{IsOfWords, Opening, activity_work, ending_of, told_by, unset}
 use Rattle.vnfm_commands.specs.Ending.{Ending}
 use Rattle.vnfm_commands.specs.Moving.{IsSpared, spare_of}
-use Rattle.vnfm_commands.specs.Words.{AreWordsOf}
+use Rattle.vnfm_commands.specs.Words.{AreWordsOf, loads, makes_rounds}
 use Rattle.vnfm_commands.specs.declared.ending.Failure.TheVariants.{NoMemory}
 use Rattle.command_line.specs.Words.{Settles, settings_of}
-use Rattle.command_line.specs.declared.options.Command.TheVariants.{Migrate}
+use Rattle.command_line.specs.declared.options.Command.TheVariants.{Migrate, Once, Serve}
 use Rattle.command_line.specs.declared.options.SettingsFault.{SettingsFault}
 use Rattle.command_line.specs.declared.options.SettingsFault.TheVariants as setting
 use Rattle.site_traits.specs.Moments.{keeps_refl}
@@ -31,7 +31,7 @@ use Rattle.command_line.specs.declared.options.Settings.{Settings}
 use Rattle.vnfm_commands.specs.Outside.{Outside, Tells, beside, outside}
 use Rattle.vnfm_commands.proofs.RoundLemmas.{asks_nobody}
 use Rattle.vnfm_commands.specs.Rounds.{Rests}
-use Rattle.vnfm_commands.specs.Runs.{AtCountBy, AtJobsBy, ActivityWorks, Pursues, Does, Recovers, Saves}
+use Rattle.vnfm_commands.specs.Runs.{AtCountBy, AtJobsBy, ActivityWorks, Pursues, Does, IsUntouched, Recovers, Runs, Saves}
 
 -- what was opened
 abbrev pub opening_of : Managed → List Event → Opening
@@ -129,13 +129,17 @@ does_not_open t why w v leaves reads found rests = record {
   told = ap (λ (p : Peers). p.mouth.told) rests.peers;
 }
 
+-- a site that is as it was wasn't called
+pub untouched : (a : SiteState) → IsUntouched a a
+untouched a = record { image = refl; moment = refl; since = λ t p left. left; still = λ t p left. left }
+
 -- a file that is as it was wasn't called
 pub spared_same : {S : Type 0} (state : S → SiteState) (counts : S → SiteCounts) (a b : S) → b ≡ a
     → IsSpared (spare_of (state a) (counts a)) (spare_of (state b) (counts b))
 spared_same {S = S} state counts a b same =
     let P : S → Type 0 = λ v. IsSpared (spare_of (state a) (counts a)) (spare_of (state v) (counts v)) in
     subst P (sym same) (record {
-      site = record { image = refl; moment = refl; since = λ t p left. left; still = λ t p left. left };
+      site = untouched (state a);
       jobs = keeps_refl (state a);
       counts = refl;
     })
@@ -162,5 +166,51 @@ of_words words s misused set is = absurd is
 of_words words s starved set is = absurd is
 of_words words s (making number result) set is = record { settings = s; set = set; is = is }
 of_words words s (migrating result) set is = record { settings = s; set = set; is = is }
+of_words words s (trying result) set is = record { settings = s; set = set; is = is }
 of_words words s (unopened why) set is = record { settings = s; set = set; is = is }
 of_words words s (opened start activity) set is = record { settings = s; set = set; is = is }
+
+-- `once` and `serve` open the journal, and make rounds
+pub opens_to_serve : (command : Command) → (command ≡ Once) ⊎ (command ≡ Serve) → loads command ≡ true
+opens_to_serve command (inl is) = ap loads is
+opens_to_serve command (inr is) = ap loads is
+
+pub serves_rounds : (command : Command) → (command ≡ Once) ⊎ (command ≡ Serve) → makes_rounds command ≡ true
+serves_rounds command (inl is) = ap makes_rounds is
+serves_rounds command (inr is) = ap makes_rounds is
+
+-- words that set nothing, or for which there is no memory, do nothing
+pub unset_runs : (t : Tells) (words : List (List ℕ)) (fault : SettingsFault) (ending : Ending) (w : Outside) → ending ≡ Err (unset fault)
+    → Settles (Err fault) (settings_of words) → (course : Course) × Runs t words course w w × (ending ≡ ending_of course)
+unset_runs t words setting.Usage ending w is settles = (
+  misused,
+  record {
+    words_are = settles;
+    does = record {
+      legal = tt;
+      site = λ told. untouched w.site;
+      saved = λ told. tt;
+      jobs = λ told. keeps_refl w.site;
+      counted = λ told. tt;
+      beside = refl;
+      told = refl;
+    };
+  },
+  is,
+)
+unset_runs t words setting.Memory ending w is settles = (
+  starved,
+  record {
+    words_are = settles;
+    does = record {
+      legal = tt;
+      site = λ told. untouched w.site;
+      saved = λ told. tt;
+      jobs = λ told. keeps_refl w.site;
+      counted = λ told. tt;
+      beside = refl;
+      told = refl;
+    };
+  },
+  is,
+)

@@ -9,6 +9,9 @@ use Rattle.journal_core.specs.declared.create.CreateFault.{CreateFault}
 use Rattle.journal_core.specs.declared.create.CreateFault.TheVariants as creating
 use Rattle.journal_migration.specs.declared.migration.MigrateFault.{MigrateFault}
 use Rattle.journal_migration.specs.declared.migration.MigrateFault.TheVariants as moving
+use Rattle.lcm_trial.specs.declared.counts.Tried.{Tried as Numbers}
+use Rattle.lcm_trial.specs.declared.counts.TrialFault.{TrialFault}
+use Rattle.lcm_trial.specs.declared.counts.TrialFault.TheVariants as trial
 use Rattle.lcm_sessions.specs.Session.{Talk, behind_told, life, work_of}
 use Rattle.lcm_events.specs.declared.events.Event.{Event}
 use Rattle.lcm_events.specs.declared.states.Role.{Role}
@@ -25,15 +28,17 @@ use Rattle.lcm_sessions.specs.declared.answer.OnboardFault.TheVariants as fault
 use Rattle.vnfm_commands.specs.Ending.{Ending}
 use Rattle.command_line.specs.Words.{settings_of}
 use Rattle.vnfm_commands.specs.Totals.{totals_of}
-use Rattle.vnfm_commands.specs.Words.{IsCommand, loads}
+use Rattle.vnfm_commands.specs.Trying.{Tries}
+use Rattle.vnfm_commands.specs.Words.{IsCommand, loads, makes_rounds}
 use Rattle.vnfm_commands.specs.declared.ending.Failure.{Failure}
 use Rattle.vnfm_commands.specs.declared.ending.Failure.TheVariants.{Usage, SiteFault, DoorFault, NoJournal, NotAJournal}
 use Rattle.vnfm_commands.specs.declared.ending.Failure.TheVariants.{NoMemory, BadRecord, JournalFull, DescriptorRefused}
 use Rattle.vnfm_commands.specs.declared.ending.Failure.TheVariants.{Taken}
-use Rattle.vnfm_commands.specs.declared.ending.Report.TheVariants.{Counted, Done, Made, Migrated, Onboarded}
+use Rattle.vnfm_commands.specs.declared.ending.Report.TheVariants.{Counted, Done, Made, Migrated, Onboarded, Tried}
 use Rattle.vnfm_commands.specs.declared.rounds.ServedRole.{ServedRole}
 use Rattle.vnfm_commands.specs.declared.rounds.ServedRole.TheVariants.{Stated, ByDoor}
-use Rattle.command_line.specs.declared.options.Command.TheVariants.{Check, Init, Migrate, Onboard, Once}
+use Rattle.command_line.specs.declared.options.Command.{Command}
+use Rattle.command_line.specs.declared.options.Command.TheVariants.{Check, Init, Migrate, Onboard, Serve, Trial}
 use Rattle.command_line.specs.declared.options.Settings.{Settings}
 use Rattle.command_line.specs.declared.options.SettingsFault.{SettingsFault}
 use Rattle.command_line.specs.declared.options.SettingsFault.TheVariants as setting
@@ -99,11 +104,13 @@ pub record Opening : Type 0 where
   pub history : List Event
 
 -- How a run went: the words were no command, there was no memory for what they set, a journal was to be made for this
--- manager, one of format 1 was to be migrated, a journal wasn't opened, or it was opened and this was done.
+-- manager, one of format 1 was to be migrated, a trial was made, a journal wasn't opened, or it was opened and this was
+-- done.
 pub data Course : Type 0 where
   misused starved : Course
   making : ℕ → Result (Unit {0}) CreateFault → Course
   migrating : Result ℕ MigrateFault → Course
+  trying : Result Numbers TrialFault → Course
   unopened : OpenFault → Course
   opened : Opening → Activity → Course
 
@@ -257,6 +264,16 @@ abbrev pub migrating_ending : Result ℕ MigrateFault → Ending
 migrating_ending (Ok records) = Ok (Migrated records)
 migrating_ending (Err why) = Err (unmigrated why)
 
+-- which failure a trial is that has no numbers
+abbrev pub untried : TrialFault → Failure
+untried trial.Room = SiteFault
+untried trial.Memory = NoMemory
+
+-- how a run ends where a trial was made
+abbrev pub trying_ending : Result Numbers TrialFault → Ending
+trying_ending (Ok tried) = Ok (Tried tried)
+trying_ending (Err why) = Err (untried why)
+
 -- the histories behind all replies that a run tells, the latest first: behind each its request is answered
 abbrev pub told_of : Course → List (List Event)
 told_of (opened start activity) = told_by start.number start.saved start.history activity
@@ -268,6 +285,7 @@ ending_of misused = Err Usage
 ending_of starved = Err NoMemory
 ending_of (making manager result) = making_ending manager result
 ending_of (migrating result) = migrating_ending result
+ending_of (trying result) = trying_ending result
 ending_of (unopened why) = Err (unopened_failure why)
 ending_of (opened start activity) = activity_ending start.saved start.history activity
 
@@ -276,10 +294,16 @@ abbrev pub IsCount : ℕ → ℕ → Close → Type 0
 IsCount wanted n finished = n ≡ wanted
 IsCount wanted n other = n < wanted
 
+-- for whom a command serves connections: `serve` for the role that the door tells, and `once` for the one that its
+-- words state
+abbrev pub served_role : Command → Role → ServedRole
+served_role Serve role = ByDoor
+served_role other role = Stated role
+
 -- the activity is one of these settings
 pub record ServesAs (s : Settings) (service : Service) : Type 0 where
-  pub command : s.command ≡ Once
-  pub role : service.role ≡ Stated s.role
+  pub command : makes_rounds s.command ≡ true
+  pub role : service.role ≡ served_role s.command s.role
   pub count : IsCount s.rounds (length service.rounds) service.close
 
 abbrev pub IsActivityOf : Settings → Activity → Type 0
@@ -293,6 +317,7 @@ IsOf s misused = ⊥
 IsOf s starved = ⊥
 IsOf s (making number result) = (s.command ≡ Init) × (number ≡ s.manager)
 IsOf s (migrating result) = s.command ≡ Migrate
+IsOf s (trying result) = (s.command ≡ Trial) × Tries s.start s.count result
 IsOf s (unopened why) = loads s.command ≡ true
 IsOf s (opened start activity) = IsActivityOf s activity
 

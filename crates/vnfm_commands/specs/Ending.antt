@@ -4,6 +4,7 @@ use Rattle.std.specs.Prelude.{false, Result, Ok, Err}
 use Rattle.lcm_sessions.specs.declared.answer.DescriptorRefusal.{DescriptorRefusal}
 use Rattle.lcm_sessions.specs.declared.answer.DescriptorRefusal.TheVariants.{Unread, IsOnboarded, TooMany, TooLong}
 use Rattle.lcm_sessions.specs.declared.answer.Onboarded.{Onboarded as Said}
+use Rattle.lcm_trial.specs.declared.counts.Tried.{Tried as Numbers}
 use Rattle.site_traits.specs.Counts.{CallCounts, called, called_in_vain}
 use Rattle.vnfd_document.specs.Texts.{fault_text}
 use Rattle.vnfm_commands.specs.declared.ending.Failure.{Failure}
@@ -11,7 +12,7 @@ use Rattle.vnfm_commands.specs.declared.ending.Failure.TheVariants.{Usage, SiteF
 use Rattle.vnfm_commands.specs.declared.ending.Failure.TheVariants.{NoMemory, BadRecord, JournalFull, DescriptorRefused}
 use Rattle.vnfm_commands.specs.declared.ending.Failure.TheVariants.{Taken}
 use Rattle.vnfm_commands.specs.declared.ending.Report.{Report}
-use Rattle.vnfm_commands.specs.declared.ending.Report.TheVariants.{Counted, Done, Made, Migrated, Onboarded}
+use Rattle.vnfm_commands.specs.declared.ending.Report.TheVariants.{Counted, Done, Made, Migrated, Onboarded, Tried}
 use Rattle.vnfm_commands.specs.declared.totals.Totals.{Totals}
 
 -- how a run ended: what is reported, or why it failed
@@ -78,13 +79,30 @@ totals_line t = codes "records " ++ decimal t.records ++ codes ", instances " ++
 abbrev pub migrated_line : ℕ → List ℕ
 migrated_line records = codes "migrated " ++ decimal records ++ codes " records\n"
 
--- the line of a report
+-- the lines of a trial: its requests, how many were accepted and refused; its operations by how they ended, and those
+-- that go on; the jobs that were begun, and the definitions that stand
+abbrev pub requests_line : Numbers → List ℕ
+requests_line t = codes "requests " ++ decimal t.requests ++ codes ", accepted " ++ decimal t.accepted
+    ++ codes ", refused " ++ decimal t.refused ++ codes "\n"
+
+abbrev pub ends_line : Numbers → List ℕ
+ends_line t = codes "completed " ++ decimal t.completed ++ codes ", failed " ++ decimal t.failed
+    ++ codes ", rolled back " ++ decimal t.rolled_back ++ codes ", ongoing " ++ decimal t.ongoing ++ codes "\n"
+
+abbrev pub jobs_line : Numbers → List ℕ
+jobs_line t = codes "jobs " ++ decimal t.jobs ++ codes ", standing " ++ decimal t.standing ++ codes "\n"
+
+abbrev pub tried_lines : Numbers → List ℕ
+tried_lines t = requests_line t ++ (ends_line t ++ jobs_line t)
+
+-- the line of a report; a trial has three
 abbrev pub report_line : Report → List ℕ
 report_line (Done rounds) = codes "done after " ++ decimal rounds ++ codes " rounds\n"
 report_line (Made manager) = numbered_line (codes "journal made for manager ") manager
 report_line (Onboarded d) = onboarded_line d
 report_line (Counted t) = totals_line t
 report_line (Migrated records) = migrated_line records
+report_line (Tried numbers) = tried_lines numbers
 
 -- the line of a failure
 abbrev pub failure_line : Failure → List ℕ

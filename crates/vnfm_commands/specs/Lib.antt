@@ -5,4 +5,5 @@ pub mod Outside
 pub mod Rounds
 pub mod Runs
 pub mod Totals
+pub mod Trying
 pub mod Words

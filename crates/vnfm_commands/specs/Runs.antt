@@ -18,13 +18,13 @@ use Rattle.site_traits.specs.Counts.{Rose}
 use Rattle.site_traits.specs.Door.{DoorCounts}
 use Rattle.site_traits.specs.Site.{Pair, SiteState, IsSettled, KeepsJobs, LeavesOnly}
 use Rattle.lcm_sessions.specs.Doing.{BringsIn}
-use Rattle.vnfm_commands.specs.Course.{Course, misused, starved, making, migrating, unopened, opened, Activity}
+use Rattle.vnfm_commands.specs.Course.{Course, misused, starved, making, migrating, trying, unopened, opened, Activity}
 use Rattle.vnfm_commands.specs.Course.{serving, counting, onboarding, Opening, activity_work, service_work, told_by, IsOfWords}
 use Rattle.lcm_sessions.specs.Onboarding.{onboarding_work}
 use Rattle.vnfm_commands.specs.Outside.{Beside, Outside, Tells, beside, session_peers, session_tells}
 use Rattle.vnfm_commands.specs.Rounds.{AsksNobody, Rests, Serves}
 use Rattle.command_line.specs.declared.options.Command.{Command}
-use Rattle.command_line.specs.declared.options.Command.TheVariants.{Check, Init, Migrate, Onboard, Once}
+use Rattle.command_line.specs.declared.options.Command.TheVariants.{Check, Init, Migrate, Onboard, Once, Serve, Trial}
 
 -- a site that wasn't called: what is read and what a stop may leave are as they were
 pub record IsUntouched (a b : SiteState) : Type 0 where
@@ -57,12 +57,13 @@ pub record IsSoundStart (m : ℕ) (H : List Event) (s : SiteState) : Type 0 wher
   pub start : IsStart m H s
   pub legal : IsLegal m H
 
--- why the door failed for a command: waiting for a connection failed, or for `onboard` a read did; `check` and `migrate`
--- never ask it
+-- why the door failed for a command: waiting for a connection failed, or for `onboard` a read did; `check`, `migrate`
+-- and `trial` never ask it
 abbrev pub IsDoorCause : Command → DoorCounts → DoorCounts → Type 0
 IsDoorCause Onboard a b = Rose a.next b.next ⊎ Rose a.faults b.faults
 IsDoorCause Check a b = ⊥
 IsDoorCause Migrate a b = ⊥
+IsDoorCause Trial a b = ⊥
 IsDoorCause other a b = Rose a.next b.next
 
 -- what is read is a file of format 1 of manager m with this history, which is legal
@@ -72,9 +73,10 @@ pub record IsSoundOldStart (m : ℕ) (H : List Event) (s : SiteState) : Type 0 w
   pub legal : IsLegal m H
 
 -- a sound start of a command: of `init` a file that is unfinished for some manager or not, of `migrate` a journal of
--- format 1 with a legal history, else a journal with one
+-- format 1 with a legal history, of `trial`, which calls no site, any, else a journal with a legal history
 abbrev pub IsStartOf : Command → SiteState → Type 0
 IsStartOf Init s = Unit {0}
+IsStartOf Trial s = Unit {0}
 IsStartOf Migrate s = (m : ℕ) × (H : List Event) × IsSoundOldStart m H s
 IsStartOf other s = (m : ℕ) × (H : List Event) × IsSoundStart m H s
 
@@ -83,8 +85,10 @@ abbrev pub MayEndWith : Command → ℕ → Type 0
 MayEndWith Init status = (status ≡ 0) ⊎ ((status ≡ 6) ⊎ (status ≡ 11))
 MayEndWith Onboard status = (status ≡ 0) ⊎ ((status ≡ 6) ⊎ ((status ≡ 9) ⊎ (status ≡ 10)))
 MayEndWith Once status = (status ≡ 0) ⊎ ((status ≡ 6) ⊎ (status ≡ 9))
+MayEndWith Serve status = (status ≡ 0) ⊎ ((status ≡ 6) ⊎ (status ≡ 9))
 MayEndWith Check status = (status ≡ 0) ⊎ (status ≡ 6)
 MayEndWith Migrate status = (status ≡ 0) ⊎ ((status ≡ 6) ⊎ ((status ≡ 9) ⊎ (status ≡ 11)))
+MayEndWith Trial status = (status ≡ 0) ⊎ ((status ≡ 3) ⊎ (status ≡ 6))
 
 -- nothing is pending, and the file has this history
 pub record IsAtRest (m : ℕ) (H : List Event) (s : SiteState) : Type 0 where
@@ -107,6 +111,7 @@ AtFile misused a b = IsUntouched a b
 AtFile starved a b = IsUntouched a b
 AtFile (making manager result) a b = Creates manager result a b
 AtFile (migrating result) a b = SyncsAndReads a b
+AtFile (trying result) a b = IsUntouched a b
 AtFile (unopened why) a b = IsRefused why a b
 AtFile (opened start activity) a b = Recovers start.number start.history
     (activity_work start.number start.saved start.history activity) a b
@@ -132,13 +137,14 @@ pub record Pursues (t : Tells) (m saved : ℕ) (H : List Event) (activity : Acti
   pub does : ActivityDoes t (record { number = m; saved = saved; history = H }) activity (beside w) (beside v)
   pub told : AreTold t.site m (told_by m saved H activity) w.mouth.told v.mouth.told w.site v.site
 
--- what a run does beside the journal: words that set nothing do nothing, and the making and the opening of a journal
--- ask nobody
+-- what a run does beside the journal: words that set nothing and a trial do nothing, and the making and the opening of a
+-- journal ask nobody
 abbrev pub CourseDoes : Tells → Course → Beside → Beside → Type 0
 CourseDoes t misused a b = b ≡ a
 CourseDoes t starved a b = b ≡ a
 CourseDoes t (making manager result) a b = Rests t a b
 CourseDoes t (migrating result) a b = Rests t a b
+CourseDoes t (trying result) a b = b ≡ a
 CourseDoes t (unopened why) a b = Rests t a b
 CourseDoes t (opened start activity) a c = (b : Beside) × Rests t a b × ActivityDoes t start activity b c
 

@@ -2,7 +2,7 @@
 use Rattle.std.specs.Prelude.{◌≡◌, ℕ, List, Bool, true, false, Some}
 use Rattle.command_line.specs.Words.{settings_of}
 use Rattle.command_line.specs.declared.options.Command.{Command}
-use Rattle.command_line.specs.declared.options.Command.TheVariants.{Check, Init, Migrate, Onboard, Once}
+use Rattle.command_line.specs.declared.options.Command.TheVariants.{Check, Init, Migrate, Onboard, Once, Serve, Trial}
 use Rattle.command_line.specs.declared.options.Settings.{Settings}
 
 -- the words are a command
@@ -22,13 +22,31 @@ pub record AreInit (manager : ℕ) (words : List (List ℕ)) : Type 0 where
   pub is : settings.command ≡ Init
   pub number : settings.manager ≡ manager
 
--- the command loads the journal, of the present format: every one but `init` and `migrate`
+-- the command loads the journal, of the present format: every one but `init`, `migrate` and `trial`
 abbrev pub loads : Command → Bool
 loads Init = false
 loads Onboard = true
 loads Once = true
+loads Serve = true
 loads Check = true
 loads Migrate = false
+loads Trial = false
+
+-- the command makes rounds: `once`, over one connection, and `serve`, over those that come at two addresses
+abbrev pub makes_rounds : Command → Bool
+makes_rounds Init = false
+makes_rounds Onboard = false
+makes_rounds Once = true
+makes_rounds Serve = true
+makes_rounds Check = false
+makes_rounds Migrate = false
+makes_rounds Trial = false
+
+-- the words are a command that makes rounds
+pub record AreServing (words : List (List ℕ)) : Type 0 where
+  pub settings : Settings
+  pub set : settings_of words ≡ Some settings
+  pub serving : makes_rounds settings.command ≡ true
 
 -- the words are a command that loads the journal
 pub record AreLoading (words : List (List ℕ)) : Type 0 where

@@ -5,7 +5,8 @@ ghost use Rattle.site_traits.specs.Sink.{Puts, SinkCause};
 ghost use Rattle.vnfd_document.specs.Texts.{fault_text};
 ghost use Rattle.vnfm_commands.specs.Ending.{Ends, failure_line, failure_status, full_line, numbered_line};
 ghost use Rattle.vnfm_commands.specs.Ending.{onboarded_line, output_of, refusal_text, refused_line, report_line};
-ghost use Rattle.vnfm_commands.specs.Ending.{migrated_line, totals_line, with_count};
+ghost use Rattle.vnfm_commands.specs.Ending.{ends_line, jobs_line, migrated_line, requests_line, totals_line};
+ghost use Rattle.vnfm_commands.specs.Ending.{tried_lines, with_count};
 
 use crate::totals::Totals;
 use arrayvec::ArrayString;
@@ -15,6 +16,7 @@ use itoa::Buffer;
 use journal_core::CreateFault;
 use journal_migration::MigrateFault;
 use lcm_sessions::{DescriptorRefusal, OnboardFault, Onboarded};
+use lcm_trial::{TrialFault, Tried};
 use notify_outbox::DeliveryFault;
 use site_traits::{Sink, SinkFailed};
 use vnfd_reader::VnfdFault;
@@ -33,6 +35,8 @@ pub enum Report {
     Counted(Totals),
     /// A journal of so many records was migrated.
     Migrated(u64),
+    /// A trial came to this.
+    Tried(Tried),
 }
 
 /// Why a command didn't do its work, by its status.
@@ -40,7 +44,7 @@ pub enum Report {
 pub enum Failure {
     /// The words are no command.
     Usage,
-    /// A disk call failed.
+    /// A disk call failed, or a trial passes its room.
     SiteFault,
     /// Waiting for a connection failed, or a read of a descriptor did.
     DoorFault,
@@ -140,6 +144,7 @@ impl Report {
             Report::Onboarded(said) => out.put(onboarded_line(said).as_str().as_bytes()),
             Report::Counted(totals) => out.put(totals_line(totals).as_str().as_bytes()),
             Report::Migrated(records) => out.put(migrated_line(*records).as_str().as_bytes()),
+            Report::Tried(tried) => out.put(tried_lines(tried).as_str().as_bytes()),
         }
     }
 }
@@ -248,6 +253,68 @@ fn migrated_line(records: u64) -> ArrayString<64>
     line.push_str("migrated ");
     line.push_str(digits.format(records));
     line.push_str(" records\n");
+    line
+}
+
+/// The lines of a trial.
+fn tried_lines(tried: &Tried) -> ArrayString<256>
+    ensures { result.bytes ≡ tried_lines tried.now }
+{
+    let requests = requests_line(tried);
+    let ends = ends_line(tried);
+    let jobs = jobs_line(tried);
+    let mut lines = ArrayString::new();
+    lines.push_str(requests.as_str());
+    lines.push_str(ends.as_str());
+    lines.push_str(jobs.as_str());
+    lines
+}
+
+/// The line of a trial's requests.
+fn requests_line(tried: &Tried) -> ArrayString<64>
+    ensures { result.bytes ≡ requests_line tried.now }
+{
+    let mut digits = Buffer::new();
+    let mut line = ArrayString::new();
+    line.push_str("requests ");
+    line.push_str(digits.format(tried.requests));
+    line.push_str(", accepted ");
+    line.push_str(digits.format(tried.accepted));
+    line.push_str(", refused ");
+    line.push_str(digits.format(tried.refused));
+    line.push_str("\n");
+    line
+}
+
+/// The line of a trial's operations.
+fn ends_line(tried: &Tried) -> ArrayString<128>
+    ensures { result.bytes ≡ ends_line tried.now }
+{
+    let mut digits = Buffer::new();
+    let mut line = ArrayString::new();
+    line.push_str("completed ");
+    line.push_str(digits.format(tried.completed));
+    line.push_str(", failed ");
+    line.push_str(digits.format(tried.failed));
+    line.push_str(", rolled back ");
+    line.push_str(digits.format(tried.rolled_back));
+    line.push_str(", ongoing ");
+    line.push_str(digits.format(tried.ongoing));
+    line.push_str("\n");
+    line
+}
+
+/// The line of a trial's jobs.
+fn jobs_line(tried: &Tried) -> ArrayString<64>
+    ensures { result.bytes ≡ jobs_line tried.now }
+{
+    let mut digits = Buffer::new();
+    let mut line = ArrayString::new();
+    line.push_str("jobs ");
+    line.push_str(digits.format(tried.jobs));
+    line.push_str(", standing ");
+    line.push_str(digits.format(tried.standing));
+    line.push_str("\n");
     line
 }
 
@@ -365,6 +432,19 @@ impl From<MigrateFault> for Failure {
             MigrateFault::Taken => Failure::Taken,
             MigrateFault::Full { end, more } => Failure::JournalFull { end, more },
             MigrateFault::Disk => Failure::SiteFault,
+        }
+    }
+}
+
+impl From<TrialFault> for Failure {
+    ghost use Rattle.vnfm_commands.specs.Course.{untried};
+
+    ghost from_gives = { λ fault failure. failure ≡ untried fault };
+
+    fn from(fault: TrialFault) -> Failure {
+        match fault {
+            TrialFault::Room => Failure::SiteFault,
+            TrialFault::Memory => Failure::NoMemory,
         }
     }
 }

@@ -1,16 +1,17 @@
 -- From what a part of the program did to what the program did.
-use Rattle.std.proofs.Common.{◌≡◌, ◌⊎◌, ℕ, Bool, true, false, List, Option, None, Result, Ok, Err, IfErr, inl, inr, sym, subst}
+use Rattle.std.proofs.Common.{◌≡◌, ◌⊎◌, ◌∙◌, ℕ, Bool, true, false, List, Option, None, Some, Result, Ok, Err, IfErr, inl, inr, refl, sym, subst}
 use Rattle.lcm_mouth.specs.Mouth.{MouthState}
 use Rattle.program_words.specs.Pages.{page_of}
 use Rattle.program_words.specs.declared.page.Page.{Page}
 use Rattle.command_line.specs.Words.{Settles, settings_of}
 use Rattle.command_line.specs.declared.options.Command.{Command}
-use Rattle.command_line.specs.declared.options.Command.TheVariants.{Check, Init, Migrate, Onboard, Once}
+use Rattle.command_line.specs.declared.options.Command.TheVariants.{Check, Init, Migrate, Onboard, Once, Serve, Trial}
 use Rattle.command_line.specs.declared.options.Settings.{Settings}
 use Rattle.command_line.specs.declared.options.SettingsFault.{SettingsFault}
 use Rattle.command_line.specs.declared.options.SettingsFault.TheVariants.{Usage}
 use Rattle.vnfm_program.specs.Program.{Goes, Machine, Meaning, Obeys, ObeysOrStarves, Objects, Opens, Performs, Scene, SpeaksOnError}
-use Rattle.vnfm_program.specs.Program.{SpeaksOnOutput, Starts, TellsIllegible, answers, is_told_on_error}
+use Rattle.vnfm_program.specs.Program.{OpensAll, OpensNothing, OpensWhere, SpeaksOnOutput, Starts, TellsIllegible, answers}
+use Rattle.vnfm_program.specs.Program.{is_told_on_error, uses_files}
 
 -- what needs an answer that there isn't holds of each fault
 pub no_answer : {A E R : Type 0} (given : Result A E) (P Q : E → Type 0) → (R → ⊥) → IfErr given (λ fault. P fault → R)
@@ -29,7 +30,8 @@ module _ {N H F J : Type 0} where
   performed_on_error g command words status a b is speaks = subst (λ (c : Command). Performs g (answers c) words status a b) (sym is) speaks
 
   pub performed_on_output : (g : Meaning N H F) (command : Command) (words : List (List ℕ)) (status : ℕ) (a b : Scene N H F J)
-      → (command ≡ Init) ⊎ ((command ≡ Onboard) ⊎ ((command ≡ Check) ⊎ (command ≡ Migrate)))
+      → (command ≡ Init) ⊎ ((command ≡ Onboard) ⊎ ((command ≡ Serve) ⊎ ((command ≡ Check) ⊎ ((command ≡ Migrate)
+      ⊎ (command ≡ Trial)))))
       → SpeaksOnOutput g words status a b → Performs g (answers command) words status a b
   performed_on_output g command words status a b (inl is) speaks =
       subst (λ (c : Command). Performs g (answers c) words status a b) (sym is) speaks
@@ -37,7 +39,11 @@ module _ {N H F J : Type 0} where
       subst (λ (c : Command). Performs g (answers c) words status a b) (sym is) speaks
   performed_on_output g command words status a b (inr (inr (inl is))) speaks =
       subst (λ (c : Command). Performs g (answers c) words status a b) (sym is) speaks
-  performed_on_output g command words status a b (inr (inr (inr is))) speaks =
+  performed_on_output g command words status a b (inr (inr (inr (inl is)))) speaks =
+      subst (λ (c : Command). Performs g (answers c) words status a b) (sym is) speaks
+  performed_on_output g command words status a b (inr (inr (inr (inr (inl is))))) speaks =
+      subst (λ (c : Command). Performs g (answers c) words status a b) (sym is) speaks
+  performed_on_output g command words status a b (inr (inr (inr (inr (inr is))))) speaks =
       subst (λ (c : Command). Performs g (answers c) words status a b) (sym is) speaks
 
   -- a run over what was opened for these settings obeys the words that set them
@@ -70,3 +76,14 @@ module _ {N H F J : Type 0} where
   pub unread : (g : Meaning N H F) (legible : Bool) (words : List (List ℕ)) (status : ℕ) (a b : Objects N H F J)
       → legible ≡ false → TellsIllegible g status a b → Starts g legible words status a b
   unread g legible words status a b none told = subst (λ (l : Bool). Starts g l words status a b) (sym none) told
+
+  -- what was done before the run of a command whose words name files, and of one whose words name none
+  pub opened_files : (g : Meaning N H F) (settings : Settings) (a b : Machine N H F J) (uses : Bool)
+      → uses ≡ uses_files settings.command → uses ≡ true → OpensAll g settings a b ⊎ OpensNothing g a b
+      → Opens g (Some settings) a b
+  opened_files g settings a b uses is named opens =
+      subst (λ (u : Bool). OpensWhere u g settings a b) (sym named ∙ is) opens
+
+  pub opened_none : (g : Meaning N H F) (settings : Settings) (a : Machine N H F J) (uses : Bool)
+      → uses ≡ uses_files settings.command → uses ≡ false → Opens g (Some settings) a a
+  opened_none g settings a uses is unnamed = subst (λ (u : Bool). OpensWhere u g settings a a) (sym unnamed ∙ is) refl

@@ -2,7 +2,7 @@
 use Rattle.std.proofs.Common.{◌≡◌, ◌⊎◌, List, ℕ, Result, Ok, Err, Some, OnErr, OnOk, refl, subst, sym, inl, inr}
 use Rattle.std.specs.declared.alloc.AllocError.{AllocError}
 use Rattle.command_line.specs.declared.options.Command.{Command}
-use Rattle.command_line.specs.declared.options.Command.TheVariants.{Check, Init, Migrate, Onboard, Once}
+use Rattle.command_line.specs.declared.options.Command.TheVariants.{Check, Init, Migrate, Onboard, Once, Serve, Trial}
 use Rattle.command_line.specs.declared.options.Settings.{Settings}
 use Rattle.outside_edges.specs.Having.{LeavesAll, Seeks, lost_by}
 use Rattle.outside_edges.specs.Site.{IsExplained, IsHeld, counts_of}
@@ -44,13 +44,16 @@ module _ {H F : Type 0} where
   -- that of the others is left
   spare_left : (m : FilesMeaning H F) (command : Command) (path : List ℕ) (files : H)
       (before behind : RealSite F NoJobs)
-      → (command ≡ Init) ⊎ ((command ≡ Onboard) ⊎ ((command ≡ Once) ⊎ (command ≡ Check)))
+      → (command ≡ Init) ⊎ ((command ≡ Onboard) ⊎ ((command ≡ Once) ⊎ ((command ≡ Serve) ⊎ ((command ≡ Check)
+      ⊎ (command ≡ Trial)))))
       → behind ≡ before → OpensSpare m command path files files before behind
   spare_left m command path files before behind others kept = elim others [
     | inl is ↦ subst (λ (c : Command). OpensSpare m c path files files before behind) (sym is) (refl, kept)
     | inr (inl is) ↦ subst (λ (c : Command). OpensSpare m c path files files before behind) (sym is) (refl, kept)
     | inr (inr (inl is)) ↦ subst (λ (c : Command). OpensSpare m c path files files before behind) (sym is) (refl, kept)
-    | inr (inr (inr is)) ↦ subst (λ (c : Command). OpensSpare m c path files files before behind) (sym is) (refl, kept)
+    | inr (inr (inr (inl is))) ↦ subst (λ (c : Command). OpensSpare m c path files files before behind) (sym is) (refl, kept)
+    | inr (inr (inr (inr (inl is)))) ↦ subst (λ (c : Command). OpensSpare m c path files files before behind) (sym is) (refl, kept)
+    | inr (inr (inr (inr (inr is)))) ↦ subst (λ (c : Command). OpensSpare m c path files files before behind) (sym is) (refl, kept)
   ]
 
 -- what holds holds where the opening failed
@@ -126,7 +129,8 @@ module _ {H F J : Type 0} where
   -- every other command opens the journal alone
   pub journal_opened : (m : FilesMeaning H F) (settings : Settings) (a b : Sites H F J)
       → (settings.command ≡ Init)
-      ⊎ ((settings.command ≡ Onboard) ⊎ ((settings.command ≡ Once) ⊎ (settings.command ≡ Check)))
+      ⊎ ((settings.command ≡ Onboard) ⊎ ((settings.command ≡ Once) ⊎ ((settings.command ≡ Serve) ⊎ ((settings.command ≡ Check)
+      ⊎ (settings.command ≡ Trial)))))
       → OpensFile m settings.journal (folder_of settings.command) a.files b.files a.site b.site → b.spare ≡ a.spare
       → OpensFiles m settings a b
   journal_opened m settings a b others journal kept = record {

@@ -2,7 +2,7 @@
 -- journal goes to (own rule, docs/FORMATS.md).
 use Rattle.std.specs.Prelude.{◌≡◌, ◌⊎◌, List, ℕ, Option, Some}
 use Rattle.command_line.specs.declared.options.Command.{Command}
-use Rattle.command_line.specs.declared.options.Command.TheVariants.{Check, Init, Migrate, Onboard, Once}
+use Rattle.command_line.specs.declared.options.Command.TheVariants.{Check, Init, Migrate, Onboard, Once, Serve, Trial}
 use Rattle.command_line.specs.declared.options.Settings.{Settings}
 use Rattle.host_calls.specs.Files.{FilesState, Hold}
 use Rattle.outside_edges.specs.Having.{LeavesAll, Seeks}
@@ -35,8 +35,10 @@ abbrev pub folder_of : Command → FolderSync
 folder_of Init = Always
 folder_of Onboard = WhereMade
 folder_of Once = WhereMade
+folder_of Serve = WhereMade
 folder_of Check = WhereMade
 folder_of Migrate = WhereMade
+folder_of Trial = WhereMade
 
 module _ {H F : Type 0} where
   -- The file at this path was asked for. Where it was lost, it was for this cause. Whatever stood at a path stands as

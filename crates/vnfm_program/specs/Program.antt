@@ -3,7 +3,7 @@ use Rattle.std.specs.Prelude.{◌≡◌, ◌⊎◌, ◌+◌, ℕ, List, [], Bool
 use Rattle.std.specs.declared.alloc.AllocError.{AllocError}
 use Rattle.command_line.specs.Words.{settings_of}
 use Rattle.command_line.specs.declared.options.Command.{Command}
-use Rattle.command_line.specs.declared.options.Command.TheVariants.{Check, Init, Migrate, Onboard, Once}
+use Rattle.command_line.specs.declared.options.Command.TheVariants.{Check, Init, Migrate, Onboard, Once, Serve, Trial}
 use Rattle.command_line.specs.declared.options.Settings.{Settings}
 use Rattle.host_calls.specs.Files.{FilesState, Hold}
 use Rattle.lcm_mouth.specs.Mouth.{MouthState}
@@ -13,7 +13,7 @@ use Rattle.outside_edges.specs.Site.{counts_of, state_in}
 use Rattle.outside_edges.specs.declared.jobs.NoJobs.{NoJobs}
 use Rattle.outside_edges.specs.declared.real_site.RealSite.{RealSite}
 use Rattle.program_words.specs.Pages.{page_of}
-use Rattle.program_words.specs.Reasons.{reason_of}
+use Rattle.program_words.specs.Reasons.{kind_of, reason_of}
 use Rattle.program_words.specs.declared.page.Page.{Page}
 use Rattle.program_words.specs.declared.reason.Reason.{Reason}
 use Rattle.program_words.specs.declared.reason.Reason.TheVariants.{Illegible}
@@ -21,6 +21,7 @@ use Rattle.site_traits.specs.Site.{SiteState}
 use Rattle.standard_streams.specs.Numbers.{AreHeld, Numbers}
 use Rattle.vnfm_cli.specs.Migration.{MigratesAs}
 use Rattle.vnfm_cli.specs.Promises.{Ground, Promises}
+use Rattle.vnfm_cli.specs.Trial.{TriesAs}
 use Rattle.vnfm_commands.specs.Ending.{Output}
 use Rattle.vnfm_commands.specs.Moving.{Spare}
 use Rattle.vnfm_commands.specs.Outside.{Outside}
@@ -84,8 +85,20 @@ abbrev pub answers : Command → Bool
 answers Init = false
 answers Onboard = false
 answers Once = true
+answers Serve = false
 answers Check = false
 answers Migrate = false
+answers Trial = false
+
+-- the words of this command name files
+abbrev pub uses_files : Command → Bool
+uses_files Init = true
+uses_files Onboard = true
+uses_files Once = true
+uses_files Serve = true
+uses_files Check = true
+uses_files Migrate = true
+uses_files Trial = false
 
 -- where the line goes that tells how the run went: that of words that set nothing goes to standard output
 abbrev pub is_told_on_error : Option Settings → Bool
@@ -116,19 +129,22 @@ module _ {N H F J : Type 0} where
   abbrev pub spare_of : Meaning N H F → Machine N H F J → Spare
   spare_of g a = record { site = state_in g.state a.spare.file; counts = counts_of a.spare }
 
-  -- what is to be said of a run with this status that left this
-  abbrev pub reason_at : ℕ → Scene N H F J → Option Reason
-  reason_at status a =
-      reason_of status a.machine.site.why a.machine.spare.why (is_undelivered a.mouth) a.mouth.account
+  -- what is to be said of a run of these words with this status that left this
+  abbrev pub reason_at : List (List ℕ) → ℕ → Scene N H F J → Option Reason
+  reason_at words status a =
+      reason_of (kind_of words) status a.machine.site.why a.machine.spare.why (is_undelivered a.mouth) a.mouth.account
 
   -- What one run of these words that ended with this status did, whose line went to a sink that showed this before it
-  -- and behind it. The file to which a journal is migrated, and its counts, are left alone but for `migrate`.
+  -- and behind it. The file to which a journal is migrated, and its counts, are left alone but for `migrate`, and a trial
+  -- calls neither.
   pub record RunsOnce (g : Meaning N H F) (sink : Type 0) (words : List (List ℕ)) (status : ℕ) (a b : Scene N H F J)
       (before behind : Output) : Type 0 where
     pub promises : Promises g.outside sink words status (ground g a before) (ground g b behind)
     pub spared : ¬ (AreWordsOf Migrate words) → b.machine.spare ≡ a.machine.spare
     pub migration : MigratesAs g.outside g.outside.site sink words status (ground g a before) (ground g b behind)
         (spare_of g a.machine) (spare_of g b.machine)
+    pub trial : TriesAs sink words status before behind
+    pub uncalled : AreWordsOf Trial words → b.machine.site ≡ a.machine.site
 
   -- the device and the files are as they were
   pub record OpensNoMore (a b : Machine N H F J) : Type 0 where
@@ -140,14 +156,14 @@ module _ {N H F J : Type 0} where
   pub record SpeaksOnOutput (g : Meaning N H F) (words : List (List ℕ)) (status : ℕ)
       (a b : Scene N H F J) : Type 0 where
     pub runs : RunsOnce g g.lines words status a b a.machine.lines b.machine.lines
-    pub explains : Explains g.errors (reason_at status b) words a.machine.errors b.machine.errors
+    pub explains : Explains g.errors (reason_at words status b) words a.machine.errors b.machine.errors
     pub kept : OpensNoMore a.machine b.machine
 
   -- the same, with the line to standard error too
   pub record SpeaksOnError (g : Meaning N H F) (words : List (List ℕ)) (status : ℕ) (a b : Scene N H F J) : Type 0 where
     pub behind : Output
     pub runs : RunsOnce g g.errors words status a b a.machine.errors behind
-    pub explains : Explains g.errors (reason_at status b) words behind b.machine.errors
+    pub explains : Explains g.errors (reason_at words status b) words behind b.machine.errors
     pub silent : b.machine.lines ≡ a.machine.lines
     pub kept : OpensNoMore a.machine b.machine
 
@@ -202,10 +218,15 @@ module _ {N H F J : Type 0} where
     pub failed : g.device_tells → (g.numbers b.device).failed ≡ (g.numbers a.device).failed + 1
     pub kept : b ≡ record a { device = b.device }
 
+  -- what is done before the run of a command whose words name files, or don't
+  abbrev pub OpensWhere : Bool → Meaning N H F → Settings → Machine N H F J → Machine N H F J → Type 0
+  OpensWhere true g settings a b = OpensAll g settings a b ⊎ OpensNothing g a b
+  OpensWhere false g settings a b = b ≡ a
+
   -- what is done before the run: nothing for words that set nothing
   abbrev pub Opens : Meaning N H F → Option Settings → Machine N H F J → Machine N H F J → Type 0
   Opens g None a b = b ≡ a
-  Opens g (Some settings) a b = OpensAll g settings a b ⊎ OpensNothing g a b
+  Opens g (Some settings) a b = OpensWhere (uses_files settings.command) g settings a b
 
   -- The files that the words name were opened, then the words were obeyed by one run over them, and then its status was
   -- explained. Nothing else was done, before or behind the run.

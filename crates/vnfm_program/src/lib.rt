@@ -2,12 +2,14 @@
 //! it went.
 #![tactic(auto)]
 
+mod door;
 mod machine;
 mod opening;
 mod output;
 mod program;
 mod words;
 
+pub use door::AnswerDoor;
 pub use machine::Machine;
 pub use program::start;
 pub use words::settings_in;

@@ -45,7 +45,12 @@ pub fn open_files<H: HostFiles, J: Jobs<H::File> + Drop>(
     )?;
     match settings.command {
         Command::Migrate => spare.open(files, streams, settings.to.as_str(), FolderSync::Always),
-        Command::Init | Command::Onboard | Command::Once | Command::Check => Ok(()),
+        Command::Init
+        | Command::Onboard
+        | Command::Once
+        | Command::Serve
+        | Command::Check
+        | Command::Trial => Ok(()),
     }
 }
 
@@ -56,7 +61,11 @@ fn folder_of(command: Command) -> FolderSync
 {
     match command {
         Command::Init => FolderSync::Always,
-        Command::Onboard | Command::Once | Command::Check | Command::Migrate =>
-            FolderSync::WhereMade,
+        Command::Onboard
+        | Command::Once
+        | Command::Serve
+        | Command::Check
+        | Command::Migrate
+        | Command::Trial => FolderSync::WhereMade,
     }
 }

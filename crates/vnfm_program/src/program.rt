@@ -3,20 +3,21 @@ ghost use Rattle.std.specs.Prelude.{◌≡◌, ◌⊎◌, IfErr, IfSome, None, S
 ghost use Rattle.std.specs.IoError.{error_kind};
 ghost use Rattle.command_line.specs.Words.{settings_of};
 ghost use Rattle.program_words.specs.Pages.{page_of};
-ghost use Rattle.program_words.specs.Reasons.{reason_of};
+ghost use Rattle.program_words.specs.Reasons.{kind_of, reason_of};
 ghost use Rattle.vnfm_commands.specs.Outside.{telling};
 ghost use Rattle.vnfm_program.specs.Program.{ObeysOrStarves, Performs, SpeaksOnError, SpeaksOnOutput, Starts, answers};
-ghost use Rattle.vnfm_program.specs.Program.{TellsIllegible, is_undelivered};
+ghost use Rattle.vnfm_program.specs.Program.{TellsIllegible, is_undelivered, uses_files};
 ghost use Rattle.vnfm_program.specs.Words.{are_legible, words_in};
 
+use crate::door::AnswerDoor;
 use crate::machine::Machine;
 use crate::opening::open_files;
 use crate::output::{explain, print, starve};
 use crate::words::{WordsFault, words_of};
-use host_calls::{HostFile, HostFiles, InStream, OutStream};
+use host_calls::{HostFile, HostFiles};
 use lcm_mouth::Mouth;
-use outside_edges::{Jobs, NoJobs, RealDoor, RealSite};
-use program_words::{Reason, page_of, reason_of};
+use outside_edges::{Jobs, NoJobs, RealSite};
+use program_words::{Reason, kind_of, page_of, reason_of};
 use site_traits::{Clock, Courier, Orchestrator, Sink};
 use standard_streams::{NullDevice, hold_streams};
 use std::alloc::{AllocError, Global};
@@ -33,7 +34,7 @@ use vnfm_cli::{Command, Settings, SettingsFault, run, settings};
 ///   and is then obeyed by one run over that file, the mouth, the orchestrator, the courier and the clock: `run` says
 ///   what it does there, and its status. `init` syncs the file's folder each time. `migrate` has the file at the path of
 ///   `--to` opened too, behind the other and under the same holding, and syncs its folder each time; every other command
-///   leaves `spare` as it is. Where the numbers can't be taken no file is opened, and the run is over the sites as they
+///   leaves `spare` as it is. `trial` opens nothing. Where the numbers can't be taken no file is opened, and the run is over the sites as they
 ///   are.
 /// - Words that are no command open nothing, and are run over the sites as they are, which gives 2. So it is where the
 ///   words can't be read, as where one isn't UTF-8, which is said then.
@@ -47,8 +48,7 @@ pub fn start<
     N: NullDevice,
     H: HostFiles<Held = N::Held>,
     J: Jobs<H::File> + Drop,
-    I: InStream,
-    O: OutStream,
+    D: AnswerDoor,
     Q: Orchestrator,
     C: Courier,
     K: Clock,
@@ -57,7 +57,7 @@ pub fn start<
 >(
     alloc: Global,
     arguments: io::Result<Args>,
-    mouth: &mut Result<Mouth<RealDoor<I, O>>, AllocError>,
+    mouth: &mut Result<Mouth<D>, AllocError>,
     machine: &mut Machine<N, H, J, Q, C, K, L, E>,
 ) -> u8
 where
@@ -65,7 +65,7 @@ where
     ensures starts { Starts (record {
       device_tells = N.tells;
       files_tells = H.tells;
-      outside = telling H.File.tells (I.tells × O.tells) Q.tells C.tells K.tells;
+      outside = telling H.File.tells D.tells Q.tells C.tells K.tells;
       lines = L.tells;
       errors = E.tells;
       numbers = N.numbers;
@@ -94,8 +94,7 @@ fn tell_illegible<
     N: NullDevice,
     H: HostFiles,
     J: Jobs<H::File> + Drop,
-    I: InStream,
-    O: OutStream,
+    D: AnswerDoor,
     Q: Orchestrator,
     C: Courier,
     K: Clock,
@@ -103,13 +102,13 @@ fn tell_illegible<
     E: Sink,
 >(
     alloc: Global,
-    mouth: &mut Result<Mouth<RealDoor<I, O>>, AllocError>,
+    mouth: &mut Result<Mouth<D>, AllocError>,
     machine: &mut Machine<N, H, J, Q, C, K, L, E>,
 ) -> u8
     ensures { TellsIllegible (record {
       device_tells = N.tells;
       files_tells = H.tells;
-      outside = telling H.File.tells (I.tells × O.tells) Q.tells C.tells K.tells;
+      outside = telling H.File.tells D.tells Q.tells C.tells K.tells;
       lines = L.tells;
       errors = E.tells;
       numbers = N.numbers;
@@ -143,8 +142,7 @@ fn command<
     N: NullDevice,
     H: HostFiles<Held = N::Held>,
     J: Jobs<H::File> + Drop,
-    I: InStream,
-    O: OutStream,
+    D: AnswerDoor,
     Q: Orchestrator,
     C: Courier,
     K: Clock,
@@ -153,7 +151,7 @@ fn command<
 >(
     alloc: Global,
     words: &[Text],
-    mouth: &mut Result<Mouth<RealDoor<I, O>>, AllocError>,
+    mouth: &mut Result<Mouth<D>, AllocError>,
     machine: &mut Machine<N, H, J, Q, C, K, L, E>,
 ) -> u8
 where
@@ -161,7 +159,7 @@ where
     ensures { ObeysOrStarves (record {
       device_tells = N.tells;
       files_tells = H.tells;
-      outside = telling H.File.tells (I.tells × O.tells) Q.tells C.tells K.tells;
+      outside = telling H.File.tells D.tells Q.tells C.tells K.tells;
       lines = L.tells;
       errors = E.tells;
       numbers = N.numbers;
@@ -182,13 +180,28 @@ where
     }
 }
 
-/// Takes the numbers of the standard streams and opens the files that the settings name, and runs over them.
+/// Whether the words of a command name files: all but those of `trial`.
+fn uses_files(command: Command) -> bool
+    ensures { result ≡ uses_files command }
+{
+    match command {
+        Command::Trial => false,
+        Command::Init
+        | Command::Onboard
+        | Command::Once
+        | Command::Serve
+        | Command::Check
+        | Command::Migrate => true,
+    }
+}
+
+/// Takes the numbers of the standard streams and opens the files that the settings name, where they name some, and runs
+/// over them.
 fn hold_and_perform<
     N: NullDevice,
     H: HostFiles<Held = N::Held>,
     J: Jobs<H::File> + Drop,
-    I: InStream,
-    O: OutStream,
+    D: AnswerDoor,
     Q: Orchestrator,
     C: Courier,
     K: Clock,
@@ -198,7 +211,7 @@ fn hold_and_perform<
     alloc: Global,
     words: &[Text],
     settings: &Settings,
-    mouth: &mut Mouth<RealDoor<I, O>>,
+    mouth: &mut Mouth<D>,
     machine: &mut Machine<N, H, J, Q, C, K, L, E>,
 ) -> u8
 where
@@ -207,7 +220,7 @@ where
     ensures { ObeysOrStarves (record {
       device_tells = N.tells;
       files_tells = H.tells;
-      outside = telling H.File.tells (I.tells × O.tells) Q.tells C.tells K.tells;
+      outside = telling H.File.tells D.tells Q.tells C.tells K.tells;
       lines = L.tells;
       errors = E.tells;
       numbers = N.numbers;
@@ -218,6 +231,9 @@ where
         words.now result (record { mouth = Ok mouth.old; machine = machine.old })
         (record { mouth = Ok mouth.new; machine = machine.new }) }
 {
+    if !uses_files(settings.command) {
+        return perform(alloc, words, settings.command, mouth, machine);
+    }
     match hold_streams(&mut machine.device) {
         Ok(streams) => match open_files(
             &mut machine.files,
@@ -238,8 +254,7 @@ fn perform<
     N: NullDevice,
     H: HostFiles,
     J: Jobs<H::File> + Drop,
-    I: InStream,
-    O: OutStream,
+    D: AnswerDoor,
     Q: Orchestrator,
     C: Courier,
     K: Clock,
@@ -249,13 +264,13 @@ fn perform<
     alloc: Global,
     words: &[Text],
     command: Command,
-    mouth: &mut Mouth<RealDoor<I, O>>,
+    mouth: &mut Mouth<D>,
     machine: &mut Machine<N, H, J, Q, C, K, L, E>,
 ) -> u8
     ensures { Performs (record {
       device_tells = N.tells;
       files_tells = H.tells;
-      outside = telling H.File.tells (I.tells × O.tells) Q.tells C.tells K.tells;
+      outside = telling H.File.tells D.tells Q.tells C.tells K.tells;
       lines = L.tells;
       errors = E.tells;
       numbers = N.numbers;
@@ -268,9 +283,12 @@ fn perform<
 {
     match command {
         Command::Once => tell_on_error(alloc, words, mouth, machine),
-        Command::Init | Command::Onboard | Command::Check | Command::Migrate => {
-            tell_on_output(alloc, words, mouth, machine)
-        }
+        Command::Init
+        | Command::Onboard
+        | Command::Serve
+        | Command::Check
+        | Command::Migrate
+        | Command::Trial => tell_on_output(alloc, words, mouth, machine),
     }
 }
 
@@ -279,8 +297,7 @@ fn tell_on_output<
     N: NullDevice,
     H: HostFiles,
     J: Jobs<H::File> + Drop,
-    I: InStream,
-    O: OutStream,
+    D: AnswerDoor,
     Q: Orchestrator,
     C: Courier,
     K: Clock,
@@ -289,13 +306,13 @@ fn tell_on_output<
 >(
     alloc: Global,
     words: &[Text],
-    mouth: &mut Mouth<RealDoor<I, O>>,
+    mouth: &mut Mouth<D>,
     machine: &mut Machine<N, H, J, Q, C, K, L, E>,
 ) -> u8
     ensures { SpeaksOnOutput (record {
       device_tells = N.tells;
       files_tells = H.tells;
-      outside = telling H.File.tells (I.tells × O.tells) Q.tells C.tells K.tells;
+      outside = telling H.File.tells D.tells Q.tells C.tells K.tells;
       lines = L.tells;
       errors = E.tells;
       numbers = N.numbers;
@@ -320,7 +337,7 @@ fn tell_on_output<
     explain(
         alloc,
         words,
-        reason(status, &machine.site, &machine.spare, mouth),
+        reason(words, status, &machine.site, &machine.spare, mouth),
         &mut machine.errors,
     );
     status
@@ -331,8 +348,7 @@ fn tell_on_error<
     N: NullDevice,
     H: HostFiles,
     J: Jobs<H::File> + Drop,
-    I: InStream,
-    O: OutStream,
+    D: AnswerDoor,
     Q: Orchestrator,
     C: Courier,
     K: Clock,
@@ -341,13 +357,13 @@ fn tell_on_error<
 >(
     alloc: Global,
     words: &[Text],
-    mouth: &mut Mouth<RealDoor<I, O>>,
+    mouth: &mut Mouth<D>,
     machine: &mut Machine<N, H, J, Q, C, K, L, E>,
 ) -> u8
     ensures { SpeaksOnError (record {
       device_tells = N.tells;
       files_tells = H.tells;
-      outside = telling H.File.tells (I.tells × O.tells) Q.tells C.tells K.tells;
+      outside = telling H.File.tells D.tells Q.tells C.tells K.tells;
       lines = L.tells;
       errors = E.tells;
       numbers = N.numbers;
@@ -372,22 +388,25 @@ fn tell_on_error<
     explain(
         alloc,
         words,
-        reason(status, &machine.site, &machine.spare, mouth),
+        reason(words, status, &machine.site, &machine.spare, mouth),
         &mut machine.errors,
     );
     status
 }
 
-/// What is to be said of a run with this status.
-fn reason<F: HostFile + Drop, J: Jobs<F> + Drop, I: InStream, O: OutStream>(
+/// What is to be said of a run of these words with this status.
+fn reason<F: HostFile + Drop, J: Jobs<F> + Drop, D: AnswerDoor>(
+    words: &[Text],
     status: u8,
     site: &RealSite<F, J>,
     spare: &RealSite<F, NoJobs>,
-    mouth: &Mouth<RealDoor<I, O>>,
+    mouth: &Mouth<D>,
 ) -> Option<Reason>
-    ensures { result ≡ reason_of status site.now.why spare.now.why (is_undelivered mouth.now) mouth.now.account }
+    ensures { result ≡ reason_of (kind_of words.now) status site.now.why spare.now.why (is_undelivered mouth.now)
+        mouth.now.account }
 {
     reason_of(
+        kind_of(words),
         status,
         site.why(),
         spare.why(),
@@ -397,7 +416,7 @@ fn reason<F: HostFile + Drop, J: Jobs<F> + Drop, I: InStream, O: OutStream>(
 }
 
 /// Whether a write on the connection failed.
-fn is_undelivered<I: InStream, O: OutStream>(mouth: &Mouth<RealDoor<I, O>>) -> bool
+fn is_undelivered<D: AnswerDoor>(mouth: &Mouth<D>) -> bool
     ensures { result ≡ is_undelivered mouth.now }
 {
     mouth.door().write_failed()

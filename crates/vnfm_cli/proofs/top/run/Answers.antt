@@ -1,5 +1,6 @@
 -- What the status says, from the way that the run went.
 use Rattle.std.proofs.Common.{◌≡◌, ◌∙◌, ℕ, ap, arith, rules, subst, sym}
+use Rattle.command_line.specs.declared.options.Command.TheVariants.{Migrate, Trial}
 use Rattle.vnfm_commands.specs.Course.{ending_of}
 use Rattle.vnfm_commands.specs.Ending.{Ending, Output, output_of, status_of, told_status}
 use Rattle.vnfm_commands.specs.Runs.{IsOrYields, MayEndWith}
@@ -8,9 +9,11 @@ use Rattle.vnfm_cli.proofs.CheckLemmas.{left_alone, told_totals}
 use Rattle.vnfm_cli.proofs.DoorLemmas.{course_fails, fails_with}
 use Rattle.vnfm_cli.proofs.EndingLemmas.{is_status, put_told, seven_lost, status_told, told_by, told_or_yields, told_same, where_told}
 use Rattle.vnfm_cli.proofs.ExactLemmas.{bad_record_ending, complete_ending, door_cause, ends_good, no_journal_ending, taken_ending}
-use Rattle.vnfm_cli.proofs.ExactLemmas.{not_migrate, told_so, IsTold}
+use Rattle.vnfm_cli.proofs.ExactLemmas.{not_words, told_so, IsTold}
 use Rattle.vnfm_cli.proofs.HeadlineLemmas.{acknowledged, leaves_fresh, leaves_sound}
 use Rattle.vnfm_cli.proofs.MigrationLemmas.{migrates_as}
+use Rattle.vnfm_cli.proofs.TrialLemmas.{is_tried}
+use Rattle.vnfm_commands.specs.Words.{AreWordsOf}
 use Rattle.vnfm_cli.proofs.top.run.Goals as goal
 
 pub returns-clause-promises : goal.returns-clause-promises
@@ -48,7 +51,7 @@ returns-clause-promises g c =
       totals = λ tells told are done m H small has.
           told_totals c.a_file_has_one_history.ensures _ told runs.0 c.args.words.now c.finish.result m H a b before after are
           runs.1.words_are (does.site tells) does.legal (rw (← runs.2) c.finish.ensures) done small has;
-      disk = λ other. disk_as _ _ _ _ (c.obey-ending.ensures.disk other)
+      disk = λ other another. disk_as _ _ _ _ (c.obey-ending.ensures.disk other another)
           (λ is. at ∙ told_same _ _ 3 (ap status_of is) (omega arith))
           (λ is. where_told 3 (status_of e) _ (told_by e).1 (status_told put (status_of e) 3 (sym at ∙ is) (omega arith)));
       untouched_jobs = c.obey-ending.ensures.untouched_jobs;
@@ -81,13 +84,14 @@ returns-clause-promises g c =
             (told_or_yields _ _ 11 (omega arith) (taken_ending runs.0 c.args.words.now a b m are runs.1.words_are (does.site tells) not));
         sink = λ seven. lost_line _ _ _ c.finish.ensures.counts (seven_lost _ _ (sym at ∙ seven)).0;
       };
-      complete = λ tells command other are start disk door sink.
+      complete = λ tells command other another are start disk door sink.
           let P : ℕ → Type 0 = λ status. MayEndWith command status in
           subst P (sym (put_told _ _ _ is (λ lost. sink (lost_line _ _ _ c.finish.ensures.counts lost))))
           (complete_ending c.files_are_one_thing.ensures.unmade c.files_are_one_thing.ensures.foreign c.files_are_one_thing.ensures.headed
-          c.a_legal_history_has_no_bad_record.ensures _ tells command runs.0 c.args.words.now a b other are start runs.1.words_are
+          c.a_legal_history_has_no_bad_record.ensures _ tells command runs.0 c.args.words.now a b other another are start runs.1.words_are
           (does.site tells)
-          (λ fault. disk (one_fault _ _ ((c.obey-ending.ensures.disk (not_migrate command c.args.words.now other are)).rose (runs.2 ∙ fault))))
+          (λ fault. disk (one_fault _ _ ((c.obey-ending.ensures.disk (not_words command Migrate c.args.words.now other are)
+          (not_words command Trial c.args.words.now another are)).rose (runs.2 ∙ fault))))
           (λ fault. door (door_cause command c.args.words.now _ _ _ are failing fault)) good);
     }
 
@@ -111,3 +115,12 @@ returns-clause-migration g c =
     let laws = c.old_files_have_one_history.ensures in
     migrates_as laws.one laws.good laws.other laws.bad _ _ _ _ c.args.words.now c.finish.result _ _ _ _ c.obey-ending.ensures.moves
     c.finish.ensures
+
+pub returns-clause-trial : goal.returns-clause-trial
+returns-clause-trial g c = λ s set is.
+    let are : AreWordsOf Trial c.args.words.now = record { settings = s; set = set; is = is } in
+    let runs = c.obey-ending.ensures.runs in
+    is_tried _ runs.0 c.args.words.now c.finish.result _ _ are runs.1.words_are (rw (← runs.2) c.finish.ensures)
+
+pub returns-clause-uncalled : goal.returns-clause-uncalled
+returns-clause-uncalled g c = c.obey-ending.ensures.uncalled

@@ -2,14 +2,15 @@
 -- opened.
 use Rattle.std.proofs.Common.{Err, Ok, ap, refl, ◌∙◌}
 use Rattle.std.proofs.lemmas.Result.{err_from_is_err_and}
-use Rattle.vnfm_commands.specs.Course.{counting, making, migrating, onboarding, onboarding_ending, opened, serving, unopened}
+use Rattle.vnfm_commands.specs.Course.{counting, making, migrating, onboarding, onboarding_ending, opened, serving, trying, unopened}
 use Rattle.vnfm_commands.specs.Outside.{outside}
 use Rattle.vnfm_commands.proofs.DiskLemmas.{alike_of, disk_last, disk_of, moved_fails, synced, unonboarded_fails, unopened_fails}
 use Rattle.vnfm_commands.proofs.RoundLemmas.{asks_nobody}
-use Rattle.vnfm_commands.proofs.RunLemmas.{does_activity, does_not_open, opening_of, rests_opened}
+use Rattle.vnfm_commands.proofs.RunLemmas.{does_activity, does_not_open, opening_of, opens_to_serve, rests_opened, serves_rounds, untouched}
 use Rattle.vnfm_commands.specs.Words.{loads}
 use Rattle.vnfm_commands.specs.declared.ending.Report.TheVariants.{Counted}
 use Rattle.vnfm_commands.specs.declared.totals.Totals.{Totals}
+use Rattle.site_traits.specs.Moments.{keeps_refl}
 use Rattle.vnfm_commands.proofs.commands.perform.Goals as goal
 
 pub returns-in-Init-clause-does : goal.returns-in-Init-clause-does
@@ -33,7 +34,7 @@ returns-in-Init-clause-does g c =
     )
 
 pub returns-in-Init-clause-disk : goal.returns-in-Init-clause-disk
-returns-in-Init-clause-disk g c = λ other. disk_of _ _ _ c.init.ensures.disk
+returns-in-Init-clause-disk g c = λ other another. disk_of _ _ _ c.init.ensures.disk
 
 pub returns-in-Init-clause-untouched_jobs : goal.returns-in-Init-clause-untouched_jobs
 returns-in-Init-clause-untouched_jobs g c = λ other. alike_of _ _ _ c.init.ensures.disk
@@ -63,7 +64,7 @@ returns-in_err-manager-in-Once-clause-does g c =
     (g.O.Orchestrator.state c.args.orchestrator.now) (g.O.Orchestrator.counts c.args.orchestrator.now)
     (g.C.Courier.state c.args.courier.now) (g.C.Courier.counts c.args.courier.now) (g.K.Clock.state c.args.clock.now) in (
       unopened why,
-      ap loads c.in-Once.is,
+      opens_to_serve _ c.in-Once.is,
       does_not_open _ why _ behind leaves c.in_err-manager-in-Once.ensures.told c.in_err-manager-in-Once.ensures.opens
           (rests_opened _ _ _ _ _ _ _ _ _ _ _ _ (λ told. (leaves told (c.in_err-manager-in-Once.ensures.told told)).0)
           (unopened_fails why c.from_residual-in_err-manager-in-Once.result _ _ c.in_err-manager-in-Once.ensures.counts
@@ -142,7 +143,7 @@ returns-in_err-onboard-in-Onboard-clause-does g c =
     )
 
 pub returns-in_err-onboard-in-Onboard-clause-disk : goal.returns-in_err-onboard-in-Onboard-clause-disk
-returns-in_err-onboard-in-Onboard-clause-disk g c = λ other.
+returns-in_err-onboard-in-Onboard-clause-disk g c = λ other another.
     let err = err_from_is_err_and c.from_residual-in_err-onboard-in-Onboard.result
     c.from_residual-in_err-onboard-in-Onboard.ensures.1 in
     disk_last _ _ _ _
@@ -160,7 +161,7 @@ returns-in_ok-manager-in-Once-clause-does g c =
     (g.O.Orchestrator.state c.args.orchestrator.now) (g.O.Orchestrator.counts c.args.orchestrator.now)
     (g.C.Courier.state c.args.courier.now) (g.C.Courier.counts c.args.courier.now) (g.K.Clock.state c.args.clock.now) in (
       opened (opening_of c.in_ok-manager-in-Once.manager start.0) (serving it.0),
-      record { command = c.in-Once.is; role = it.2; count = it.3 },
+      record { command = serves_rounds _ c.in-Once.is; role = it.2 ∙ c.served_role.ensures; count = it.3 },
       does_activity _ c.in_ok-manager-in-Once.manager _ start.0 (serving it.0) _ middle _
           (c.works_add_up.ensures.stays c.load-in-Once.new.site)
           (c.works_add_up.ensures.stays c.make_rounds.new.site)
@@ -174,7 +175,7 @@ returns-in_ok-manager-in-Once-clause-does g c =
     )
 
 pub returns-in_ok-manager-in-Once-clause-disk : goal.returns-in_ok-manager-in-Once-clause-disk
-returns-in_ok-manager-in-Once-clause-disk g c = λ other.
+returns-in_ok-manager-in-Once-clause-disk g c = λ other another.
     disk_last _ _ _ _
     (disk_of _ _ _ (synced ⊥ _ _ (c.in_ok-manager-in-Once.ensures.counts.stays (λ wrong. cc wrong)) (λ never. never)))
     c.make_rounds.ensures.disk
@@ -247,3 +248,23 @@ returns-in-Migrate-clause-does g c =
 
 pub returns-in-Migrate-clause-untouched_jobs : goal.returns-in-Migrate-clause-untouched_jobs
 returns-in-Migrate-clause-untouched_jobs g c = λ other. alike_of _ _ _ (moved_fails c.move_journal.ensures.0 _ _ c.move_journal.ensures.2.first)
+
+pub returns-in-Trial-clause-does : goal.returns-in-Trial-clause-does
+returns-in-Trial-clause-does g c =
+    let tried = c.play_trial.ensures in (
+      trying tried.0,
+      (c.in-Trial.is, tried.2),
+      record {
+        legal = tt;
+        site = λ told. untouched _;
+        saved = λ told. tt;
+        jobs = λ told. keeps_refl _;
+        counted = λ told. tt;
+        beside = refl;
+        told = refl;
+      },
+      tried.1,
+    )
+
+pub returns-in_ok-manager-in-Once-clause-untouched_jobs : goal.returns-in_ok-manager-in-Once-clause-untouched_jobs
+returns-in_ok-manager-in-Once-clause-untouched_jobs g c = λ other. absurd (other (serves_rounds _ c.in-Once.is))

@@ -12,6 +12,8 @@ returns g c = rw (← c.machine.view_is) (inl (record {
     promises = c.run-status.ensures.promises;
     spared = c.run-status.ensures.spared;
     migration = c.run-status.ensures.migration;
+    trial = c.run-status.ensures.trial;
+    uncalled = c.run-status.ensures.uncalled;
   };
   explains = c.explain.ensures;
   kept = record { device = refl; files = refl };

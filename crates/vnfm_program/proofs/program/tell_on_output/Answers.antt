@@ -8,6 +8,8 @@ returns g c = rw (← c.machine.view_is) (record {
     promises = c.run-status.ensures.promises;
     spared = c.run-status.ensures.spared;
     migration = c.run-status.ensures.migration;
+    trial = c.run-status.ensures.trial;
+    uncalled = c.run-status.ensures.uncalled;
   };
   explains =
       rw c.reason.ensures at c.explain.ensures;
