@@ -1,6 +1,6 @@
 #!/bin/sh
 # An HTTP client of the field against the program: curl creates two instances, lists them, shows one, deletes it, and asks for what isn't
-# there. A small relay (tests/relay.py) gives each of its connections to a run of `once`, since the program opens no port.
+# there. A small relay (tests/relay.py) gives each of its connections to a run of `once`, which opens no port.
 . "$(dirname "$0")/common.sh"
 
 journal=$room/journal

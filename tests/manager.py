@@ -1,11 +1,11 @@
 #!/usr/bin/env python3
-"""Runs the manager with real objects at each edge: crates/manager_trial, which is `once` behind a door at two addresses,
+"""Runs the manager with real objects at each edge: `serve`
 with examples/orchestrator.py and examples/adapter.py as its peers, and curl as its client. An instance is created at
 the orchestrator's address and shown at the element manager's; both find it again behind a SIGKILL; it is instantiated
 over the same door, with two SIGKILLs on the way, and ends COMPLETED with each resource standing once; and a run ends by
 itself behind its rounds.
 
-The programs are built by `rt run` and `vnfm`, so a first run takes minutes; the trial itself takes seconds. Prints what
+The program is built by `vnfm`, so a first run takes minutes; the trial itself takes seconds. Prints what
 it saw, and ends with 1 where that differs from what is wanted.
 """
 import json
@@ -18,14 +18,13 @@ import time
 
 import reaches
 from begun_once import CHANGES, free_port
-from reaches import EXAMPLES, HERE, NOWHERE, Peer, PROGRAM, expect, standing
+from reaches import EXAMPLES, NOWHERE, Peer, PROGRAM, expect, standing
 
-CRATE = HERE / "crates" / "manager_trial"
 INSTANCES = "/vnflcm/v1/vnf_instances"
 
 
 class Manager:
-    """manager_trial over this journal, for so many rounds, at two addresses that stay the same."""
+    """`serve` over this journal, for so many rounds, at two addresses that stay the same."""
 
     def __init__(self, journal, orchestrator=NOWHERE, vim=NOWHERE):
         self.journal, self.peers = journal, ["--orchestrator", orchestrator, "--vim", vim]
@@ -33,8 +32,8 @@ class Manager:
         self.process = None
 
     def start(self, rounds=1_000_000):
-        words = ["once", "--journal", self.journal, "--rounds", str(rounds), *self.peers]
-        self.process = subprocess.Popen([CRATE / "out" / "manager_trial", *self.addresses, *words], stdout=subprocess.PIPE, text=True)
+        words = ["serve", "--journal", self.journal, "--listen", self.addresses[0], "--em-listen", self.addresses[1], "--rounds", str(rounds), *self.peers]
+        self.process = subprocess.Popen([PROGRAM, *words], stdout=subprocess.PIPE, stderr=subprocess.DEVNULL, text=True)
 
     def kill(self):
         self.process.kill()
@@ -107,7 +106,6 @@ def ended(manager):
 
 
 def main():
-    subprocess.run(["rt", "run"], cwd=CRATE, stdout=subprocess.DEVNULL, stderr=subprocess.DEVNULL, check=False)
     subprocess.run([PROGRAM, "--version"], check=True)
     with tempfile.TemporaryDirectory() as at:
         room = pathlib.Path(at)

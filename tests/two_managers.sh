@@ -48,6 +48,7 @@ for redirections in '' '2>&-' '1>&- 2>&-' '0<&- 1>&- 2>&-'; do
     locked_out /dev/null "$redirections" init --manager 7
     locked_out "$here/examples/vnfd.json" "$redirections" onboard
     locked_out "$request" "$redirections" once
+    locked_out /dev/null "$redirections" serve --listen 127.0.0.1:0 --em-listen 127.0.0.1:0
 done
 
 cat "$request" >&3

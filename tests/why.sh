@@ -34,9 +34,6 @@ at="--journal $room/none"
     wrong "no word" "a command is missing$more"
     wrong "a word that isn't UTF-8" "a word isn't UTF-8, so none of them counts$more" once --journal "$(printf 'j\377')"
     wrong "a command that is none" "\"archive\" isn't understood$more" archive $at
-    for command in serve trial; do
-        wrong "a command that isn't built" "\"$command\" isn't built yet; vnfm --help says which commands are" $command $at
-    done
     wrong "an option twice" "\"--rounds\" stands twice$more" once $at --rounds 1 --rounds 2
     wrong "an option of another command" "\"--manager\" isn't understood$more" once $at --manager 7
     wrong "an option without a value" "\"--rounds\" has no value$more" once $at --rounds
@@ -50,8 +47,14 @@ at="--journal $room/none"
     wrong "no journal" "--journal PATH is missing$more" once
     wrong "no manager" "--manager N is missing$more" init $at
     wrong "no path to migrate to" "--to PATH is missing$more" migrate $at
+    wrong "no start" "--start N is missing$more" trial
+    wrong "too many steps" "\"2001\" is no value of --count, which takes a number from 0 to 2000, in at most 20 digits$more" \
+        trial --start 1 --count 2001
+    wrong "no address for the orchestrator" "--listen ADDR is missing$more" serve $at --em-listen 127.0.0.1:1
+    wrong "no address for the element manager" "--em-listen ADDR is missing$more" serve $at --listen 127.0.0.1:1
+    wrong "an address that only serve has" "\"--listen\" isn't understood$more" once $at --listen 127.0.0.1:1
+    wrong "a role of serve" "\"--role\" isn't understood$more" serve $at --role em
 }
-expect "the text of --help says what isn't built" "$("$program" --help | grep -c "serve and trial, which it names, aren't built yet")" 1
 
 # ---- Journals
 
