@@ -1,0 +1,4 @@
+pub mod Chosen
+pub mod Faults
+pub mod Naming
+pub mod Telling
