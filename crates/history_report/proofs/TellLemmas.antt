@@ -22,7 +22,7 @@ pub record TellsSoFar (tells told : Type 0) (c : Chosen) (old new : Managed) (s 
   pub number : new.ledger.manager ≡ old.ledger.manager
   pub ready : (H : List Event) → IsReady tells old H s → IsReady tells new H t
   pub reads : tells → Reads s t
-  pub lines : (H : List Event) → IsReady tells old H s → tells → told → k ≤ length H
+  pub told_so_far : (H : List Event) → IsReady tells old H s → tells → told → k ≤ length H
       → now ++ rest old.ledger.manager H c k ≡ before ++ lines old.ledger.manager H c
 
 -- the lines behind event k are that of the next one and those behind it
@@ -33,14 +33,20 @@ next_line m H c k h =
     ap (λ n. flat_map (line_at m H c) (range_with_len (k + 1) n)) e
 
 -- at first all lines are behind
+all_behind : (m : ℕ) (H : List Event) (c : Chosen) → rest m H c 0 ≡ lines m H c
+unfolding lines
+all_behind m H c =
+    let e : length H - 0 ≡ length H = omega arith in
+    ap (λ n. flat_map (line_at m H c) (range_with_len 1 n)) e
+
 pub nothing_yet : (tells told : Type 0) (c : Chosen) (old : Managed) (s : SiteState) (before : List ℕ)
     → TellsSoFar tells told c old old s s before (before ++ []) 0
-unfolding lines
 nothing_yet tells told c old s before = record {
   number = refl;
   ready = λ H ready. ready;
   reads = λ _. reads-refl s;
-  lines = λ H ready _ _ _. append_assoc before [] (rest old.ledger.manager H c 0);
+  told_so_far = λ H ready _ _ _. append_assoc before [] (rest old.ledger.manager H c 0)
+      ∙ ap (λ x. before ++ x) (all_behind old.ledger.manager H c);
 }
 
 -- the line of an event that is read back is that of its place
@@ -57,20 +63,20 @@ pub one_more : (tells told : Type 0) (c : Chosen) (old mid new : Managed) (s t u
     → ((H : List Event) → IsReady tells mid H t → IsReady tells new H u)
     → (tells → Reads t u)
     → ((H : List Event) → IsReady tells mid H t → tells → told → then ≡ now ++ line_at mid.ledger.manager H c (k + 1))
-    → ((H : List Event) → IsReady tells mid H t → k < length H)
+    → ((H : List Event) → IsReady tells old H s → k < length H)
     → TellsSoFar tells told c old new s u before then (k + 1)
 one_more tells told c old mid new s t u before now then k far number ready reads adds within = record {
   number = number ∙ far.number;
   ready = λ H is. ready H (far.ready H is);
   reads = λ tell. reads-then s t u (far.reads tell) (reads tell);
-  lines = λ H is tell hear _.
+  told_so_far = λ H is tell hear _.
       let m = old.ledger.manager in
-      let there = within H (far.ready H is) in
+      let there = within H is in
       let same : then ≡ now ++ line_at m H c (k + 1) =
       adds H (far.ready H is) tell hear ∙ ap (λ x. now ++ line_at x H c (k + 1)) far.number in
       ap (λ x. x ++ rest m H c (k + 1)) same
       ∙ (append_assoc now (line_at m H c (k + 1)) (rest m H c (k + 1))
-      ∙ (ap (λ x. now ++ x) (sym (next_line m H c k there)) ∙ far.lines H is tell hear (omega (arith, there))));
+      ∙ (ap (λ x. now ++ x) (sym (next_line m H c k there)) ∙ far.told_so_far H is tell hear (omega (arith, there))));
 }
 
 -- behind the last event nothing is left
@@ -79,7 +85,7 @@ none_left m H c k is =
     let e : length H - k ≡ zero = omega (arith, is) in
     ap (λ n. flat_map (line_at m H c) (range_with_len (k + 1) n)) e
 
-append_none : (xs : List ℕ) → xs ++ [] ≡ xs
+pub append_none : (xs : List ℕ) → xs ++ [] ≡ xs
 append_none [] = refl
 append_none (x ∷ xs) = ap (λ ys. x ∷ ys) (append_none xs)
 
@@ -90,7 +96,7 @@ pub all_told : (tells told : Type 0) (c : Chosen) (old new : Managed) (s t : Sit
     → now ≡ before ++ lines old.ledger.manager H c
 all_told tells told c old new s t before now k far H is tell hear all =
     sym (append_none now) ∙ (ap (λ x. now ++ x) (sym (none_left old.ledger.manager H c k all))
-    ∙ far.lines H is tell hear (omega (arith, all)))
+    ∙ far.told_so_far H is tell hear (omega (arith, all)))
 
 -- what was put is a front of all that is to be put
 pub front_so_far : (tells told : Type 0) (c : Chosen) (old new : Managed) (s t : SiteState) (before put text : List ℕ)
@@ -100,5 +106,5 @@ pub front_so_far : (tells told : Type 0) (c : Chosen) (old new : Managed) (s t :
     → IsFrontOf (before ++ lines old.ledger.manager H c) put
 front_so_far tells told c old new s t before put text k far H is tell hear within = (
   text ++ rest old.ledger.manager H c k,
-  sym (append_assoc put text (rest old.ledger.manager H c k)) ∙ far.lines H is tell hear within,
+  sym (append_assoc put text (rest old.ledger.manager H c k)) ∙ far.told_so_far H is tell hear within,
 )

@@ -10,9 +10,9 @@ use Rattle.vnfm_base.specs.declared.identifier.Kind.{Kind}
 use Rattle.vnfm_base.specs.declared.identifier.Kind.TheVariants.{Instance, Occurrence}
 use Rattle.history_report.specs.Telling.{IsFrontOf, lines}
 use Rattle.history_report.specs.declared.chosen.Chosen.{Chosen}
-use Rattle.history_report.specs.declared.report.ReportFault.{ReportFault}
-use Rattle.history_report.specs.declared.report.ReportFault.TheVariants as fault
-use Rattle.history_report.specs.declared.report.Wish.{Wish}
+use Rattle.history_report.specs.declared.reporting.ReportFault.{ReportFault}
+use Rattle.history_report.specs.declared.reporting.ReportFault.TheVariants as fault
+use Rattle.history_report.specs.declared.reporting.Wish.{Wish}
 
 -- the text is the identifier of the n-th of a kind, which the history made
 pub record Names (manager : ℕ) (H : List Event) (kind : Kind) (text : List ℕ) (n : ℕ) : Type 0 where

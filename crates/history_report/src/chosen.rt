@@ -1,5 +1,5 @@
 //! Which events are told of.
-ghost use Rattle.std.specs.Prelude.{◌≡◌, List, option_copied};
+ghost use Rattle.std.specs.Prelude.{◌≡◌, List, false, option_copied};
 ghost use Rattle.executor.specs.Managed.{Keeps};
 ghost use Rattle.lcm_events.specs.declared.events.Event.{Event};
 ghost use Rattle.lcm_model.specs.Operations.{occurrence_of};

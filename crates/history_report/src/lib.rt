@@ -3,8 +3,8 @@
 
 mod chosen;
 mod lines;
-mod report;
+mod reporting;
 
 pub use chosen::Chosen;
 pub use lines::{TellFault, tell_lines};
-pub use report::{Form, ReportFault, Wish, report};
+pub use reporting::{Form, ReportFault, Wish, report};

@@ -1,5 +1,5 @@
 //! The lines of the events of a journal.
-ghost use Rattle.std.specs.Prelude.{◌≡◌, ◌≢◌, ◌≤◌, ◌++◌, [], List, IfOk, OnOk, OnErr, Some, false, length};
+ghost use Rattle.std.specs.Prelude.{◌≡◌, ◌≢◌, ◌≤◌, ◌++◌, [], List, IfOk, OnOk, OnErr, Some, false, length, ℕ};
 ghost use Rattle.executor.specs.Managed.{IsReady, Keeps};
 ghost use Rattle.executor.specs.Reading.{event_in};
 ghost use Rattle.journal_core.specs.Asking.{FailsWhere};

@@ -129,7 +129,7 @@ fn number_of<S: Site>(manager: &Manager<S>, kind: Kind, id: &Text) -> Option<u64
 }
 
 impl From<OpenFault> for ReportFault {
-    ghost use Rattle.history_report.specs.declared.report.ReportFault.TheVariants.{Open};
+    ghost use Rattle.history_report.specs.declared.reporting.ReportFault.TheVariants.{Open};
 
     ghost from_gives = { λ fault e. e ≡ Open fault };
 
@@ -139,7 +139,7 @@ impl From<OpenFault> for ReportFault {
 }
 
 impl From<TellFault> for ReportFault {
-    ghost use Rattle.history_report.specs.declared.report.ReportFault.TheVariants.{Tell};
+    ghost use Rattle.history_report.specs.declared.reporting.ReportFault.TheVariants.{Tell};
 
     ghost from_gives = { λ fault e. e ≡ Tell fault };
 
