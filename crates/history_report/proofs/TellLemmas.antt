@@ -108,3 +108,21 @@ front_so_far tells told c old new s t before put text k far H is tell hear withi
   text ++ rest old.ledger.manager H c k,
   sym (append_assoc put text (rest old.ledger.manager H c k)) ∙ far.told_so_far H is tell hear within,
 )
+
+-- What stands so far where nothing is put: the manager is ready for the history that it was ready for, and the file was
+-- only read.
+pub record ReadsSoFar (tells : Type 0) (old new : Managed) (s t : SiteState) : Type 0 where
+  pub ready : (H : List Event) → IsReady tells old H s → IsReady tells new H t
+  pub reads : tells → Reads s t
+
+pub unread : (tells : Type 0) (old : Managed) (s : SiteState) → ReadsSoFar tells old old s s
+unread tells old s = record { ready = λ H ready. ready; reads = λ _. reads-refl s }
+
+-- one event more
+pub read_on : (tells : Type 0) (old mid new : Managed) (s t u : SiteState) → ReadsSoFar tells old mid s t
+    → ((H : List Event) → IsReady tells mid H t → IsReady tells new H u) → (tells → Reads t u)
+    → ReadsSoFar tells old new s u
+read_on tells old mid new s t u far ready reads = record {
+  ready = λ H is. ready H (far.ready H is);
+  reads = λ tell. reads-then s t u (far.reads tell) (reads tell);
+}

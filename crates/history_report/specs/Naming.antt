@@ -8,8 +8,10 @@ use Rattle.lcm_model.specs.Allowed.{IsLegal}
 use Rattle.vnfm_base.specs.Ident.{IsIdentNumber, ident, ident_text}
 use Rattle.vnfm_base.specs.declared.identifier.Kind.{Kind}
 use Rattle.vnfm_base.specs.declared.identifier.Kind.TheVariants.{Instance, Occurrence}
-use Rattle.history_report.specs.Telling.{IsFrontOf, lines}
+use Rattle.history_report.specs.Telling.{IsFrontOf, PutsPage, lines}
 use Rattle.history_report.specs.declared.chosen.Chosen.{Chosen}
+use Rattle.history_report.specs.declared.reporting.Form.{Form}
+use Rattle.history_report.specs.declared.reporting.Form.TheVariants.{Lines, Page}
 use Rattle.history_report.specs.declared.reporting.ReportFault.{ReportFault}
 use Rattle.history_report.specs.declared.reporting.ReportFault.TheVariants as fault
 use Rattle.history_report.specs.declared.reporting.Wish.{Wish}
@@ -59,17 +61,32 @@ Chooses manager H wish (Err fault.NoInstance) = LacksWished manager H Instance w
 Chooses manager H wish (Err fault.NoOccurrence) = LacksWished manager H Occurrence wish.occurrence
 Chooses manager H wish (Err other) = ⊥
 
--- what a report comes to over a journal of this manager and this legal history: all lines of what is wished for stand
--- behind what stood there; or nothing does, since there is no such thing; or a front of them
+-- all that is to be told in this form stands behind what stood there: the lines of what is chosen, or a page
+abbrev pub IsTold : Form → ℕ → List Event → Chosen → List ℕ → List ℕ → Type 0
+IsTold Lines manager H c before after = after ≡ before ++ lines manager H c
+IsTold Page manager H c before after = PutsPage before after
+
+-- what was put before a fault: a front of the lines; of a page nothing
+abbrev pub IsPartTold : Form → ℕ → List Event → Chosen → List ℕ → List ℕ → Type 0
+IsPartTold Lines manager H c before after = IsFrontOf (before ++ lines manager H c) after
+IsPartTold Page manager H c before after = after ≡ before
+
+-- all is told, or what was put before a fault
+abbrev pub Tells : {T E : Type 0} → Form → ℕ → List Event → Chosen → Result T E → List ℕ → List ℕ → Type 0
+Tells form manager H c (Ok done) before after = IsTold form manager H c before after
+Tells form manager H c (Err why) before after = IsPartTold form manager H c before after
+
+-- what a report comes to over a journal of this manager and this legal history: what is wished for is told; or nothing
+-- is, since there is no such thing; or it is told in part
 abbrev pub ReportsOf : {T : Type 0} → ℕ → List Event → Wish → Result T ReportFault → List ℕ → List ℕ → Type 0
 ReportsOf manager H wish (Ok done) before after =
-    (c : Chosen) × AreWished manager H wish c × (after ≡ before ++ lines manager H c)
+    (c : Chosen) × AreWished manager H wish c × IsTold wish.form manager H c before after
 ReportsOf manager H wish (Err fault.NoInstance) before after =
     LacksWished manager H Instance wish.instance × (after ≡ before)
 ReportsOf manager H wish (Err fault.NoOccurrence) before after =
     LacksWished manager H Occurrence wish.occurrence × (after ≡ before)
 ReportsOf manager H wish (Err (fault.Tell why)) before after =
-    (c : Chosen) × AreWished manager H wish c × IsFrontOf (before ++ lines manager H c) after
+    (c : Chosen) × AreWished manager H wish c × IsPartTold wish.form manager H c before after
 ReportsOf manager H wish (Err (fault.Open why)) before after = ⊥
 
 -- the history that a file has, which is legal, and its manager

@@ -1,7 +1,7 @@
 -- The lines that tell of a history (own rule, docs/FORMATS.md).
 use Rattle.std.specs.List.{range_with_len}
 use Rattle.std.specs.Option.{option_map_or}
-use Rattle.std.specs.Prelude.{List, Option, [], flat_map, if◌then◌else◌, length, ℕ, ◌++◌, ◌≡◌}
+use Rattle.std.specs.Prelude.{IsUtf8, List, Option, [], flat_map, if◌then◌else◌, length, ℕ, ◌++◌, ◌≡◌}
 use Rattle.executor.specs.Reading.{event_in}
 use Rattle.history_lines.specs.Lines.{line}
 use Rattle.history_report.specs.Chosen.{is_chosen, row_of, vnfd_of}
@@ -24,3 +24,7 @@ lines manager H c = flat_map (line_at manager H c) (range_with_len 1 (length H))
 -- a text is the front of a whole one
 abbrev pub IsFrontOf : List ℕ → List ℕ → Type 0
 IsFrontOf whole text = (rest : List ℕ) × (text ++ rest ≡ whole)
+
+-- a page was put behind what stood there
+abbrev pub PutsPage : List ℕ → List ℕ → Type 0
+PutsPage before after = (page : List ℕ) × IsUtf8 page × (after ≡ before ++ page)

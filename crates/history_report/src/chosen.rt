@@ -121,3 +121,24 @@ pub(crate) fn vnfd_of<'a, S: Site>(
         None => None,
     }
 }
+
+/// The row of the occurrence that an event is about, or asks for.
+pub(crate) fn asked_row<'a, S: Site>(
+    manager: &'a Manager<S>,
+    kind: &EventKind,
+) -> Option<&'a OccRow>
+    requires usable { manager.now.ledger.closed ≡ false }
+{
+    match occurrence_in(kind) {
+        Some(occ) => manager.occurrences().occurrence(occ),
+        None => None,
+    }
+}
+
+/// Whether an event is about no occurrence, or about one of a greater number than this.
+pub(crate) fn is_behind(behind: u64, kind: &EventKind) -> bool {
+    match occurrence_in(kind) {
+        Some(occ) => behind < occ,
+        None => true,
+    }
+}

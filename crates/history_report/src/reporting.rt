@@ -1,13 +1,15 @@
 //! A report of a journal: it is opened, what is asked for is found, and the events are told.
 ghost use Rattle.std.specs.Prelude.{◌≡◌, List, false, true};
-ghost use Rattle.executor.specs.Managed.{Keeps};
+ghost use Rattle.executor.specs.Managed.{IsReady, Keeps};
 ghost use Rattle.executor.specs.Questions.{is_made};
 ghost use Rattle.journal_core.specs.Load.{SyncsAndReads};
 ghost use Rattle.lcm_events.specs.declared.events.Event.{Event};
-ghost use Rattle.history_report.specs.Naming.{Chooses, FindsNumber, FindsWhere, Reports};
+ghost use Rattle.history_report.specs.Naming.{Chooses, FindsNumber, FindsWhere, Reports, Tells};
+ghost use Rattle.site_traits.specs.Site.{Reads};
 
 use crate::chosen::Chosen;
 use crate::lines::{TellFault, tell_lines};
+use crate::page::tell_page;
 use executor::{Manager, OpenFault};
 use site_traits::{Sink, Site};
 use std::alloc::Global;
@@ -70,8 +72,28 @@ pub fn report<S: Site, L: Sink>(
 {
     let mut manager = Manager::load(alloc, site)?;
     let chosen = chosen_of(&manager, wish)?;
-    tell_lines(alloc, &mut manager, site, chosen, out)?;
+    tell(alloc, wish.form, &mut manager, site, chosen, out)?;
     Ok(())
+}
+
+/// Tells of the events that are chosen, in this form.
+fn tell<S: Site, L: Sink>(
+    alloc: Global,
+    form: Form,
+    manager: &mut Manager<S>,
+    site: &mut S,
+    chosen: Chosen,
+    out: &mut L,
+) -> Result<(), TellFault>
+    requires ready { (H : List Event) × IsReady S.tells manager.old H (S.state site.old) }
+    ensures told { (H : List Event) → IsReady S.tells manager.old H (S.state site.old) → S.tells → L.tells
+        → Tells form manager.old.ledger.manager H chosen result (L.state out.old) (L.state out.new) }
+    ensures reads { S.tells → Reads (S.state site.old) (S.state site.new) }
+{
+    match form {
+        Form::Lines => tell_lines(alloc, manager, site, chosen, out),
+        Form::Page => tell_page(alloc, manager, site, chosen, out),
+    }
 }
 
 /// The numbers of what is wished for.

@@ -65,45 +65,77 @@ pub fn read_words(words: &[Text]) -> Option<Asked<'_>> {
     Some(Asked::Report(read_request(words)?))
 }
 
-/// The report that the words ask for.
-fn read_request(words: &[Text]) -> Option<Request<'_>> {
-    let mut journal = None;
-    let mut instance = None;
-    let mut occurrence = None;
-    let mut form = None;
-    let mut rest = words;
-    while let [option, behind @ ..] = rest {
-        rest = behind;
-        if option.as_str() == "--html" && form.is_none() {
-            form = Some(Form::Page);
-            continue;
-        }
-        let [value, behind @ ..] = rest else {
-            return None;
-        };
-        rest = behind;
-        let value = value_in(value)?;
-        match option.as_str() {
-            "--journal" if journal.is_none() => journal = Some(value),
-            "--instance" if instance.is_none() => instance = Some(value),
-            "--occurrence" if occurrence.is_none() => occurrence = Some(value),
-            _ => return None,
-        }
-    }
-    Some(Request {
-        journal: journal?,
-        instance,
-        occurrence,
-        form: form.unwrap_or(Form::Lines),
-    })
+/// The options that stand among the words, each with its value.
+#[derive(Clone, Copy)]
+struct Options<'a> {
+    journal: Option<&'a str>,
+    instance: Option<&'a str>,
+    occurrence: Option<&'a str>,
+    html: bool,
 }
 
-/// A word that is a value: one that doesn't begin with `-`.
-fn value_in(word: &Text) -> Option<&str> {
-    let value = word.as_str();
-    if value.starts_with('-') {
-        None
-    } else {
-        Some(value)
+impl<'a> Options<'a> {
+    /// These with one more; none where it isn't known, stands already, or has no value: a word that doesn't begin with `-`.
+    fn with(self, name: &str, value: &'a str) -> Option<Options<'a>> {
+        if value.starts_with('-') {
+            return None;
+        }
+        match name {
+            "--journal" if self.journal.is_none() => Some(Options {
+                journal: Some(value),
+                ..self
+            }),
+            "--instance" if self.instance.is_none() => Some(Options {
+                instance: Some(value),
+                ..self
+            }),
+            "--occurrence" if self.occurrence.is_none() => Some(Options {
+                occurrence: Some(value),
+                ..self
+            }),
+            _ => None,
+        }
     }
+
+    /// These with `--html`, which has no value; none where it stands already.
+    fn with_html(self) -> Option<Options<'a>> {
+        if self.html {
+            return None;
+        }
+        Some(Options { html: true, ..self })
+    }
+}
+
+/// The report that the words ask for.
+fn read_request(words: &[Text]) -> Option<Request<'_>> {
+    let mut options = Options {
+        journal: None,
+        instance: None,
+        occurrence: None,
+        html: false,
+    };
+    let mut name = None;
+    for word in words {
+        match name {
+            Some(before) => {
+                options = options.with(before, word.as_str())?;
+                name = None;
+            }
+            None if word.as_str() == "--html" => options = options.with_html()?,
+            None => name = Some(word.as_str()),
+        }
+    }
+    if name.is_some() {
+        return None;
+    }
+    Some(Request {
+        journal: options.journal?,
+        instance: options.instance,
+        occurrence: options.occurrence,
+        form: if options.html {
+            Form::Page
+        } else {
+            Form::Lines
+        },
+    })
 }

@@ -31,20 +31,20 @@ returns-in_err-put_text-clause-reads g c = λ tell.
 pub events-preserved : goal.events-preserved
 events-preserved g c =
     let put : g.L.Sink.tells
-        → g.L.Sink.state c.if-len-ge-BLOCK.out ++ c.if-len-ge-BLOCK.text.items
-        ≡ g.L.Sink.state c.events.out ++ c.add_event.new.text.items =
-        elim c.if-len-ge-BLOCK.branch [
-          | then-len-ge-BLOCK+in_ok-put_text w ↦ (λ hear. rw (w.out-is, w.text-is, w.in_ok-put_text.ensures.cleared)
-              (append_none _ ∙ (w.in_ok-put_text.ensures.told hear).put))
-          | else-len-ge-BLOCK w ↦ (λ hear. rw (w.out-is, w.text-is) refl)
-        ] in
+    → g.L.Sink.state c.if-len-ge-BLOCK.out ++ c.if-len-ge-BLOCK.text.items
+    ≡ g.L.Sink.state c.events.out ++ c.add_event.new.text.items =
+    elim c.if-len-ge-BLOCK.branch [
+      | then-len-ge-BLOCK+in_ok-put_text w ↦ (λ hear. rw (w.out-is, w.text-is, w.in_ok-put_text.ensures.cleared)
+          (append_none _ ∙ (w.in_ok-put_text.ensures.told hear).put))
+      | else-len-ge-BLOCK w ↦ (λ hear. rw (w.out-is, w.text-is) refl)
+    ] in
     let out = g.L.Sink.state c.events.out in
     let old = c.events.text.items in (
       one_more _ _ _ _ _ _ _ _ _ _ _ _ _ c.events.invariant.0 c.add_event.ensures.number
           (λ H is. c.in_ok-add_event.ensures.ready H is (λ wrong. cc)) c.add_event.ensures.reads
           (λ H is tell hear.
-              let line = line_at c.events.manager.ledger.manager H c.args.chosen (c.events.k + 1) in
-              put hear ∙ (ap (λ t. out ++ t) (c.in_ok-add_event.ensures.adds H is tell) ∙ sym (append_assoc out old line)))
+          let line = line_at c.events.manager.ledger.manager H c.args.chosen (c.events.k + 1) in
+          put hear ∙ (ap (λ t. out ++ t) (c.in_ok-add_event.ensures.adds H is tell) ∙ sym (append_assoc out old line)))
           (λ H is. let count = c.records-count.ensures H is.keeps in omega (arith, count)),
       c.in_ok-add_event.ensures.counts.stays (λ wrong. cc) ∙ c.events.invariant.1,
     )
