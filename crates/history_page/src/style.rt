@@ -61,7 +61,7 @@ summary .count { color: var(--soft); font-size: .85rem; }
 details ul { margin: .5rem 0; padding: 0; list-style: none; font-size: .85rem; }
 details table { font-size: .85rem; }
 details td, details th, details th:first-child { padding: .15rem .5rem .15rem 0; border: 0; }
-details td { overflow-wrap: anywhere; } details td.time, details td.took { overflow-wrap: normal; }
+details td { overflow-wrap: break-word; }
 .within-line { margin: .25rem 0 .3rem; }
 @media (max-width: 62rem) { section { overflow-x: auto; } .operations { table-layout: auto; } td.time { white-space: normal; } td.why, td.tries { min-width: 10rem; } }
 @media print { body { max-width: none; padding: 0; font-size: 11px; } section, tr { break-inside: avoid; }
