@@ -175,16 +175,17 @@ def refusals(t):
         "--journal", str(t.journal("old", data[:8] + b"\1" + data[9:])))
     torn = t.journal("torn", data[:-1])
     t.says("a torn end", 8, "vnfm_history: %s: bad record 601: it is broken, or isn't allowed there\n" % quoted(torn), "--journal", str(torn))
+    nobody = {"user": 65534, "group": 65534, "extra_groups": []}
     shut = t.journal("shut", data)
     shut.chmod(stat.S_IRUSR)
     if os.getuid() == 0:
         shut.chmod(0o644)
         for path in (t.room, shut):
             path.chmod(path.stat().st_mode | stat.S_IROTH | (stat.S_IXOTH if path.is_dir() else 0))
-        ended = t.run("--journal", str(shut), user=65534)
+        ended = t.run("--journal", str(shut), **nobody)
         t.expect("a file that may be read and not written", (ended.returncode, ended.stderr, len(ended.stdout.split("\n")) - 1), (0, "", 600))
         shut.chmod(0o600)
-        t.says("a file that may not be read", 3, "vnfm_history: %s: there is no permission to read it\n" % quoted(shut), "--journal", str(shut), user=65534)
+        t.says("a file that may not be read", 3, "vnfm_history: %s: there is no permission to read it\n" % quoted(shut), "--journal", str(shut), **nobody)
     else:
         t.expect("a file that may be read and not written", t.run("--journal", str(shut)).returncode, 0)
     with open("/dev/full", "w") as full:
