@@ -22,6 +22,7 @@ import socket
 import subprocess
 import sys
 import threading
+import time
 
 sys.dont_write_bytecode = True
 program, room, tests, copies = sys.argv[1], pathlib.Path(sys.argv[2]), sys.argv[3], int(sys.argv[4])
@@ -40,8 +41,9 @@ COPIERS = {
     "dd bs=1M": lambda: shell(f"dd if={JOURNAL} of={COPY} bs=1M 2>/dev/null"),
     "reads of any length": lambda: by_reads(),
 }
-# How long the client waits between two requests, so that copies end in every state of an append; seconds.
-LONGEST_WAIT = 0.002
+# How long a client waits between two requests, and a copy behind an answer, at most, so that copies end in every state of an
+# append; and for how long nothing may be acknowledged; seconds.
+LONGEST_WAIT, PATIENCE = 0.002, 30
 differs = []
 
 
@@ -95,7 +97,7 @@ class Client(threading.Thread):
         if answer.status != status:
             differ(f"{method} {path} is answered {answer.status}")
         self.acknowledged += 1
-        threading.Event().wait(self.draw.uniform(0, LONGEST_WAIT))
+        time.sleep(self.draw.uniform(0, LONGEST_WAIT))
         return answer.getheader("Location")
 
 
@@ -134,10 +136,26 @@ def serve(ports):
 Copied = collections.namedtuple("Copied", "copier acknowledged path")
 
 
+def acknowledged_by(clients):
+    return sum(it.acknowledged for it in clients)
+
+
+def await_more(clients, than):
+    """Waits until more events are acknowledged, and a moment of an append more."""
+    until = time.monotonic() + PATIENCE
+    while acknowledged_by(clients) <= than:
+        if time.monotonic() > until:
+            sys.exit(f"nothing is acknowledged any more behind {than}")
+        time.sleep(0.0001)
+    time.sleep(random.uniform(0, LONGEST_WAIT))
+
+
 def copy_all(clients):
     """The copies, each with how many events were acknowledged before it began."""
+    acknowledged = 0
     for number, (copier, copy) in zip(range(copies), itertools.cycle(COPIERS.items())):
-        acknowledged = sum(it.acknowledged for it in clients)
+        await_more(clients, acknowledged)
+        acknowledged = acknowledged_by(clients)
         COPY.unlink(missing_ok=True)
         copy()
         path = room / f"copy.{number}"
@@ -205,7 +223,7 @@ def main():
         row[2].add(copied.path.stat().st_size)
     for copier, (number, behind, lengths) in found.items():
         print(f"{copier}: {number} copies of {len(lengths)} lengths, {behind} with bytes behind the closed gate")
-    acknowledged, lost = (sum(getattr(it, of) for it in clients) for of in ("acknowledged", "lost"))
+    acknowledged, lost = acknowledged_by(clients), sum(it.lost for it in clients)
     records = len(list(records_of(final)))
     print(f"acknowledged meanwhile: {acknowledged}, lost: {lost}; final records: {records}, {len(final)} bytes")
     if not 0 <= records - before - acknowledged <= lost:
