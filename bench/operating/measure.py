@@ -7,14 +7,15 @@ what a sync takes there. Times are those that pass, unless it is said otherwise.
 usage: bench/operating/measure.py [VNFM [VIM_SIM [FOLDER [quick]]]]     the files stand in a new folder within FOLDER (default: where temporary files do),
                                                                         which decides what disk is measured; `quick` is for a try, with small numbers
 
-It takes some ten minutes, half a minute where it is quick. Nothing else may run on the machine.
+It takes some eight minutes, of which two are waits for 100 receivers that take no connection; nothing else may run on the machine. With `quick` it takes
+four, for these waits.
 """
 import contextlib
-import http.client
 import importlib.util
 import json
 import os
 import pathlib
+import re
 import socket
 import statistics
 import subprocess
@@ -44,7 +45,7 @@ TIMES = 2 if QUICK else 7
 SYNCS = 100 if QUICK else 1_000
 # On one journal fewer than the 1,000 instances that may be live.
 CREATIONS = 100 if QUICK else 900
-WAITING, PERIOD = [1, 10, 100], 2 if QUICK else 30
+WAITING, PERIOD = [1, 10, 100], 7 if QUICK else 30
 OPERATIONS = [(1, "normal"), (10, "large")]
 SHOWN = 1 if QUICK else 5
 IDLE = 2 if QUICK else 10
@@ -87,7 +88,7 @@ def running(words, heard=subprocess.DEVNULL):
 
 
 class Manager:
-    """`serve` over a journal, until the block ends."""
+    """`serve` over a journal, from its first answer until the block ends: it listens before it reads the journal."""
 
     def __init__(self, path, *peers):
         self.path, self.port = path, free_port()
@@ -98,8 +99,10 @@ class Manager:
         begun = time.monotonic()
         self.process = self.block.__enter__()
         said = self.process.stderr.readline()
-        self.start = time.monotonic() - begun
+        self.listens = time.monotonic() - begun
         must(said.startswith(b"vnfm: listening at "), f"serve says {said}")
+        Connection(self.port).ask("GET", "/", 404, last=True)
+        self.answers = time.monotonic() - begun
         return self
 
     def __exit__(self, *fault):
@@ -118,37 +121,66 @@ class Manager:
         return int(pathlib.Path(f"/proc/{self.process.pid}/schedstat").read_text().split()[0]) / 1e9
 
 
+class Ended(Exception):
+    """The manager has ended a connection."""
+
+
 class Connection:
-    """A kept connection, which is opened again where the manager has ended it, as it does behind five seconds."""
+    """A kept connection, which is opened again where the manager has ended it, as it does behind five seconds. It does as little as it can, since its time is
+    in what is measured."""
 
     def __init__(self, port):
-        self.port, self.opened, self.connection = port, 0, None
+        self.port, self.opened, self.socket = port, 0, None
 
     def ask(self, method, path, status, body=None, last=False):
-        """What a request is answered, with this status."""
+        """What a request is answered, with this status: the Location, or else the content."""
+        content = json.dumps(body).encode() if body else b""
+        fields = ("Content-Type: application/json\r\n" if body else "") + ("Connection: close\r\n" if last else "")
+        head = f"{method} {path} HTTP/1.1\r\nHost: vnfm.example\r\n{fields}Content-Length: {len(content)}\r\n\r\n"
+        return self.exchange(head.encode() + content, status, last)
+
+    def exchange(self, request, status, last=False):
         while True:
-            if self.connection is None:
-                self.connection = http.client.HTTPConnection("127.0.0.1", self.port, timeout=600)
-                self.connection.connect()
-                self.connection.sock.setsockopt(socket.IPPROTO_TCP, socket.TCP_NODELAY, 1)
-                self.opened += 1
-            fields = {**({"Content-Type": "application/json"} if body else {}), **({"Connection": "close"} if last else {})}
             try:
-                self.connection.request(method, path, body and json.dumps(body), fields)
-                answer = self.connection.getresponse()
-                content = answer.read()
-            except (http.client.RemoteDisconnected, BrokenPipeError, ConnectionResetError):
+                self.open().sendall(request)
+                head, content = self.hear()
+            except (Ended, BrokenPipeError, ConnectionResetError):
                 self.close()  # it was ended before this request, which was not read
                 continue
-            must(answer.status == status, f"{method} {path} is answered {answer.status}: {content}")
+            must(head.startswith(b"HTTP/1.1 %d " % status), f"{request} is answered {head} {content}")
             if last:
                 self.close()
-            return answer.getheader("Location") or content
+            location = re.search(rb"\r\nLocation: ([^\r]*)", head)
+            return location[1].decode() if location else content
+
+    def open(self):
+        if self.socket is None:
+            self.socket = socket.create_connection(("127.0.0.1", self.port), timeout=600)
+            self.socket.setsockopt(socket.IPPROTO_TCP, socket.TCP_NODELAY, 1)
+            self.opened += 1
+        return self.socket
+
+    def hear(self):
+        """The head and the content of an answer."""
+        heard = self.more()
+        while b"\r\n\r\n" not in heard:
+            heard += self.more()
+        head, _, content = heard.partition(b"\r\n\r\n")
+        length = re.search(rb"\r\nContent-Length: (\d+)", head)
+        while length and len(content) < int(length[1]):
+            content += self.more()
+        return head, content
+
+    def more(self):
+        piece = self.socket.recv(1 << 20)
+        if not piece:
+            raise Ended
+        return piece
 
     def close(self):
-        if self.connection:
-            self.connection.close()
-        self.connection = None
+        if self.socket:
+            self.socket.close()
+        self.socket = None
 
 
 class Bare:
@@ -350,7 +382,7 @@ def showing(room, journal):
         for title, last in (("kept", False), ("a new one each", True)):
             connection, took = Connection(manager.port), []
             until = time.monotonic() + SHOWN
-            while time.monotonic() < until:
+            while time.monotonic() < until or len(took) < 2:
                 begun = time.monotonic()
                 content = connection.ask("GET", one, 200, last=last)
                 took.append(time.monotonic() - begun)
@@ -370,14 +402,14 @@ def idling(room, start):
 
 
 def starting(room):
-    """`check`, and `serve` until it listens, over journals of many events: a batch each, and packed."""
+    """`check`, and `serve` until it listens and until it answers, over journals of many events: a batch each, and packed."""
     old, single, packed = room / "old", room / "alone", room / "packed"
     for path, form in ((old, 1), (single, 2)):
         with open(path, "wb") as file:
             load.write(file, "cycle", EVENTS, 1, form)
     measuring.run([vnfm, "migrate", "--journal", old, "--to", packed])
     os.sync()
-    measuring.head("Events", "Bytes", "`check`, s", "its processor time, s", "`serve` listens, s", "reading the file, s")
+    measuring.head("Events", "Bytes", "`check`, s", "its processor time, s", "`serve` listens, s", "answers, s", "reading the file, s")
     for path in (single, packed):
         check, rows = [vnfm, "check", "--journal", path], []
         for _ in range(STARTS):
@@ -386,8 +418,8 @@ def starting(room):
             used = measuring.used() - before
             with Manager(path) as manager:
                 pass
-            rows.append((took, used, manager.start, timed(path.read_bytes)))
-        measuring.row(EVENTS, path.stat().st_size, *[measuring.cell(it, 1) for it in zip(*rows)])
+            rows.append((took, used, manager.listens, manager.answers, timed(path.read_bytes)))
+        measuring.row(EVENTS, path.stat().st_size, *[measuring.cell(it, 1, 3) for it in zip(*rows)])
 
 
 def instantiated(start, number):
@@ -403,7 +435,7 @@ def instantiated(start, number):
 
 def remembering(room, start):
     path = room / "journal"
-    measuring.head("Instances of 13 changes", "Bytes of the journal", "VmRSS, once it listens", "VmHWM", "VmHWM behind a list of all", "Bytes of the list")
+    measuring.head("Instances of 13 changes", "Bytes of the journal", "VmRSS, once it answers", "VmHWM", "VmHWM behind a list of all", "Bytes of the list")
     for number in (0, INSTANCES):
         path.write_bytes(instantiated(start, number))
         with Manager(path) as manager:
