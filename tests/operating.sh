@@ -1,85 +1,113 @@
 #!/bin/sh
 # docs/OPERATING.md by its own lines, over other paths and ports, as the user who runs this: what is installed, the journal,
 # a start by the words of examples/vnfm.service, a backup, a restore from it, a restore from an older copy with what happens
-# where its numbers aren't passed over, a move, a night on which the adapter was gone, an orchestrator that asks while it is
-# asked; and what the page and the unit say of each exit status, which is seen. `systemctl` and `journalctl` are stood in for
-# by functions here. The unit is judged by systemd-analyze, and tried by systemd itself, each where it is there. Needs curl
-# and python3. Two minutes.
+# where its numbers aren't passed over, a night on which the adapter was gone, an orchestrator that asks while it is asked,
+# a move; and what the page and the unit say of each exit status, which is seen. `systemctl` and `journalctl` are functions
+# here, and the unit is judged by systemd-analyze where it is there. Needs curl and python3. Two minutes.
+#
+#     tests/operating.sh [system]     with `system` over the page's own paths and ports, as root, by systemd itself: that is
+#                                     for a machine that is there for it alone, as the one of under_systemd.sh
 . "$(dirname "$0")/common.sh"
 
 page=$here/docs/OPERATING.md
-port() {
-    python3 -c 'import socket; it = socket.socket(); it.bind(("127.0.0.1", 0)); print(it.getsockname()[1])'
-}
-door=$(port) em_door=$(port) grants=$(port) vim=$(port)
-ln -s "$here/vnfm" "$here/crates" "$here/examples" "$here/.build" "$room" && cd "$room" || exit 1
-mkdir "$room/bin" "$room/units" || exit 1
+is_system=${1:+yes}
 manager='' adapter='' orchestrator='' newest=journal.none used=57
 trap 'kill $manager $adapter $orchestrator 2>/dev/null; rm -rf "$room"' EXIT
 
-# The paths, ports and users of the page, as they are here.
-here_are() {
-    sed -e "s#/usr/local/bin/vnfm#$room/bin/vnfm#g; s#/var/lib/vnfm#$room/lib#g; s#/var/backups/vnfm#$room/backups#g" \
-        -e "s#/etc/systemd/system/#$room/units/#g; s#runuser -u vnfm -- ##; s# -o vnfm -g vnfm##" \
-        -e "s/:9000/:$door/g; s/:9001/:$em_door/g; s/:9100/:$grants/g; s/:9200/:$vim/g" \
-        -e "s/journal\.20261202T031500/$newest/; s/ 57\$/ $used/; s/-8000-000000000002/-8000-00000000000${occurrence:-2}/"
-}
-
-# Does the one command that matches, of the section of the page that is at hand.
-line() { # PATTERN
+# The one command that matches, of the section of the page that is at hand.
+command_of() { # PATTERN
     found=$(awk -v it="## $section" '/^## / { on = $0 == it } on' "$page" | grep "^    .*$1")
     if [ "$(printf '%s\n' "$found" | grep -c .)" -ne 1 ]; then
         echo "docs/OPERATING.md, $section, hasn't one command of $1" >&2
         exit 1
     fi
-    eval "$(printf '%s\n' "$found" | here_are)"
+    printf '%s\n' "$found" | here_are | sed -e "s/journal\.20261202T031500/$newest/; s/ 57\$/ $used/" \
+        -e "s/8002-8000-000000000002/8002-8000-00000000000${occurrence:-2}/"
 }
 
-# ---- What stands for systemd here
+# Does it.
+line() { # PATTERN
+    eval "$(command_of "$1")"
+}
 
 # The words of ExecStart in a unit.
 exec_words() { # UNIT
     sed -e ':more' -e '/\\$/{N;s/\\\n *//;b more' -e '}' "$1" | sed -n 's/^ExecStart=//p'
 }
 
-start_manager() {
-    : >"$room/said"
-    # shellcheck disable=SC2046
-    exec_words "$room/units/vnfm.service" >"$room/words"
-    sh -c "exec $(cat "$room/words")" >>"$room/said" 2>&1 &
-    manager=$! tries=0
-    while [ "$tries" -lt 500 ] && ! grep -q . "$room/said"; do
+if [ -n "$is_system" ]; then
+    [ -d /run/systemd/system ] && [ "$(id -u)" = 0 ] && [ ! -e /var/lib/vnfm ] && [ ! -e /usr/local/bin/vnfm ] || {
+        echo "systemd doesn't run here, or not as root, or vnfm is installed" >&2
+        exit 1
+    }
+    door=9000 em_door=9001 grants=9100 vim=9200
+    lib=/var/lib/vnfm bin=/usr/local/bin backups=/var/backups/vnfm units=/etc/systemd/system
+    cd "$here" || exit 1
+    here_are() {
+        cat
+    }
+    # What the manager said last.
+    said() {
+        journalctl -u vnfm --no-pager -o cat | sed -n '/^vnfm: /p' | tail -n "$1"
+    }
+else
+    port() {
+        python3 -c 'import socket; it = socket.socket(); it.bind(("127.0.0.1", 0)); print(it.getsockname()[1])'
+    }
+    door=$(port) em_door=$(port) grants=$(port) vim=$(port)
+    lib=$room/lib bin=$room/bin backups=$room/backups units=$room/units
+    mkdir "$bin" "$units" && ln -s "$here/vnfm" "$here/crates" "$here/examples" "$here/.build" "$room" && cd "$room" || exit 1
+    # The paths, ports and users of the page, as they are here.
+    here_are() {
+        sed -e "s#/usr/local/bin/vnfm#$bin/vnfm#g; s#/var/lib/vnfm#$lib#g; s#/var/backups/vnfm#$backups#g" \
+            -e "s#/etc/systemd/system/#$units/#g; s#runuser -u vnfm -- ##; s# -o vnfm -g vnfm##" \
+            -e "s/:9000/:$door/g; s/:9001/:$em_door/g; s/:9100/:$grants/g; s/:9200/:$vim/g"
+    }
+    said() {
+        tail -n "$1" "$room/said"
+    }
+    start_manager() {
+        : >"$room/said"
+        sh -c "exec $(exec_words "$units/vnfm.service")" >>"$room/said" 2>&1 &
+        manager=$!
+    }
+    stop_manager() {
+        kill -TERM "$manager"
+        wait "$manager" 2>/dev/null
+        expect "stopped, status" "$?" 143
+        manager=''
+    }
+    systemctl() {
+        case "$1 $2" in
+        "daemon-reload ") ;;
+        "enable --now" | "start vnfm") start_manager ;;
+        "disable --now" | "stop vnfm") stop_manager ;;
+        *) expect "systemctl $*" "" "a command of the page" ;;
+        esac
+    }
+    journalctl() {
+        cat "$room/said"
+    }
+fi
+
+# Does the command that starts the manager, and waits until it answers.
+start_by() { # PATTERN
+    line "$1" 2>/dev/null
+    tries=0
+    until curl -s -o /dev/null "$api/vnf_instances" || [ "$tries" -ge 300 ]; do
         tries=$((tries + 1))
-        sleep 0.02
+        sleep 0.1
     done
-    cat "$room/said" >>"$room/log"
-}
-
-stop_manager() {
-    [ -z "$manager" ] && return
-    kill -TERM "$manager"
-    wait "$manager" 2>/dev/null
-    expect "stopped, status" "$?" 143
-    manager=''
-}
-
-systemctl() {
-    case "$1 $2" in
-    "daemon-reload ") ;;
-    "enable --now" | "start vnfm") start_manager ;;
-    "disable --now" | "stop vnfm") stop_manager ;;
-    *) expect "systemctl $*" "" "a command of the page" ;;
-    esac
-}
-
-journalctl() {
-    cat "$room/said"
+    expect "it says" "$(said 1)" "$listening"
+    [ "$tries" -ge 300 ] || return
+    journalctl -u vnfm -n 9 --no-pager
+    exit 1
 }
 
 # ---- The peers, and what is asked
 
 start_adapter() {
-    python3 "$here/examples/adapter.py" --listen "127.0.0.1:$vim" --folder "$room/infrastructure" >/dev/null 2>&1 &
+    python3 "$here/examples/adapter.py" --listen "127.0.0.1:$vim" --folder "$infrastructure" >/dev/null 2>&1 &
     adapter=$!
     listens "$vim"
 }
@@ -134,9 +162,10 @@ print(it["instantiationState"], len(info.get("vnfcResourceInfo", [])), *levels)'
 
 # How many resources stand in the adapter's infrastructure.
 standing() {
-    find "$room/infrastructure" -maxdepth 1 -name 'r[0-9]*' | wc -l | tr -d ' '
+    find "$infrastructure" -maxdepth 1 -name 'r[0-9]*' | wc -l | tr -d ' '
 }
 
+infrastructure=$(pwd)/infrastructure
 api=http://127.0.0.1:$door/vnflcm/v1
 one=/vnf_instances/00000007-766d-8001-8000-000000000001
 scale='{"type":"SCALE_OUT","aspectId":"workers"}'
@@ -147,34 +176,36 @@ listening="vnfm: listening at 127.0.0.1:$door for the orchestrator, at 127.0.0.1
 section=Install
 expect "the program is built" "$(line '\./vnfm --version')" "$("$here/vnfm" --version)"
 line 'install -m 0755 .build'
+[ -z "$is_system" ] || line useradd
 line 'install -d -m 0700 -o vnfm'
-expect "the folder, mode" "$(stat -c %a "$room/lib")" 700
+expect "the folder, mode" "$(stat -c %a "$lib")" 700
 expect "init" "$(line 'vnfm init')" "journal made for manager 7"
-expect "the journal, mode" "$(stat -c %a "$room/lib/journal")" 600
+expect "the journal, mode" "$(stat -c %a "$lib/journal")" 600
 expect "onboard" "$(line 'onboard .*examples')" "onboarded vnfd-1: 2 vdus, 1 aspects, 2 levels"
 
 # ---- Start
 
 section=Start
 line 'install -m 0644 examples/vnfm.service'
-here_are <"$here/examples/vnfm.service" >"$room/units/vnfm.service"
+here_are <"$here/examples/vnfm.service" >"$units/vnfm.service"
 if command -v systemd-analyze >/dev/null; then
     expect "systemd-analyze verify" "$(line 'systemd-analyze verify' 2>&1) $?" " 0"
     expect "systemd-analyze security, exposure at most 2.0" \
-        "$(systemd-analyze security --offline=true --threshold=20 "$room/units/vnfm.service" >/dev/null 2>&1 && echo yes)" yes
+        "$(systemd-analyze security --offline=true --threshold=20 "$units/vnfm.service" >/dev/null 2>&1 && echo yes)" yes
 fi
 start_orchestrator --later
 start_adapter
 line 'systemctl daemon-reload'
-line 'systemctl enable --now vnfm'
-expect "it says" "$(line 'journalctl -u vnfm -n 5')" "$listening"
+start_by 'systemctl enable --now vnfm'
+expect "it is logged" "$(line 'journalctl -u vnfm -n 5' | grep -o 'vnfm: .*')" "$listening"
 expect "it answers" "$(line 'curl -s')" "[]"
-sed 's/vnfd-1/vnfd-2/' "$here/examples/vnfd.json" >"$room/vnfd.json"
+sed 's/vnfd-1/vnfd-2/' "$here/examples/vnfd.json" >vnfd.json
 line 'onboard .*journal <vnfd.json' >"$room/out" 2>&1
 expect "onboard beside a manager" "$? $(head -n 1 "$room/out")" "3 site fault"
 line 'systemctl stop vnfm'
 expect "onboard behind a stop" "$(line 'onboard .*journal <vnfd.json')" "onboarded vnfd-2: 2 vdus, 1 aspects, 2 levels"
-line 'systemctl start vnfm'
+rm -f vnfd.json
+start_by 'systemctl start vnfm'
 asked "create" 201 /vnf_instances -d '{"vnfdId":"vnfd-1"}'
 asked "instantiate, granted by 202 and a Location" 202 $one/instantiate -d '{"flavourId":"simple"}'
 awaits COMPLETED
@@ -187,7 +218,7 @@ serve_on() { # JOURNAL [WORD..]
     journal=$1
     shift
     # shellcheck disable=SC2046
-    timeout 20 $(sed "s#$room/lib/journal#$journal#" "$room/words") "$@"
+    timeout 20 $(exec_words "$units/vnfm.service" | sed "s#$lib/journal#$journal#") "$@"
 }
 
 # What the page and the unit say of a status that is seen, and its line.
@@ -201,11 +232,11 @@ seen() { # COMMAND WORD..
     "$@" >"$room/out" 2>"$room/err" </dev/null
     seen_status=$?
 }
-seen serve_on "$room/lib/journal" --rounds
+seen serve_on "$lib/journal" --rounds
 ends "words too many" 2 "usage: vnfm init|onboard|once|serve|check|trial|migrate" '`usage: vnfm ..` | stays down'
-seen serve_on "$room/lib/journal"
+seen serve_on "$lib/journal"
 ends "a lock that is held" 3 "site fault" '`site fault` | stays down'
-expect "  why" "$(sed -n '$p' "$room/err")" "vnfm: \"$room/lib/journal\": another manager holds its lock"
+expect "  why" "$(sed -n '$p' "$room/err")" "vnfm: \"$lib/journal\": another manager holds its lock"
 cp "$start" "$room/other"
 seen serve_on "$room/other"
 ends "an address that is taken" 4 "door fault" '`door fault` | tries again'
@@ -215,9 +246,9 @@ ends "a journal that was never made" 5 "no journal" '`no journal`, `not a journa
 head -c "$(($(bytes_of "$start") - 9))" "$start" >"$room/broken"
 seen serve_on "$room/broken"
 ends "a broken record" 8 "bad record 1" '`bad record N` | stays down'
-seen "$room/bin/vnfm" onboard --journal "$room/other"
+seen "$bin/vnfm" onboard --journal "$room/other"
 ends "no descriptor" 10 "descriptor refused: not JSON" '`descriptor refused: T` | never of `serve`'
-seen "$room/bin/vnfm" init --journal "$room/other" --manager 7
+seen "$bin/vnfm" init --journal "$room/other" --manager 7
 ends "init again" 11 "taken" '`taken` | stays down; never of `serve`'
 stays=$(sed -n 's/^| \([0-9]*\) |[^|]*| stays down.*/\1/p' "$page" | grep -vx 0 | tr '\n' ' ')
 expect "what stays down, by the unit" "$(sed -n 's/^RestartPreventExitStatus=//p' "$here/examples/vnfm.service") " "$stays"
@@ -239,17 +270,17 @@ restore() {
     line 'mv '
     line 'install -m 0600'
     line 'sync '
-    expect "the copy that is put back, mode" "$(stat -c %a "$room/lib/journal")" 600
+    expect "the copy that is put back, mode" "$(stat -c %a "$lib/journal")" 600
     line 'vnfm check'
 }
 section='Back up'
 line 'install -d'
 expect "a copy beside the manager" "$(back_up | sed 's/^records [0-9]*, //')" "instances 1, ongoing 0, subscriptions 0"
-newest=$(ls "$room/backups")
-expect "  its bytes are the journal's" "$(cmp "$room/backups/$newest" "$room/lib/journal" 2>&1)" ""
+newest=$(ls "$backups")
+expect "  its bytes are the journal's" "$(cmp "$backups/$newest" "$lib/journal" 2>&1)" ""
 restore >"$room/out"
 expect "restored" "$(tail -n 1 "$room/out" | sed 's/^records [0-9]*, //')" "instances 1, ongoing 0, subscriptions 0"
-line 'systemctl start'
+start_by 'systemctl start'
 expect "  the instance, and what stands" "$(shows 1), $(standing)" "INSTANTIATED 3 1, 13"
 asked "create another" 201 /vnf_instances -d '{"vnfdId":"vnfd-1"}'
 
@@ -261,30 +292,30 @@ expect "  the instance, and what stands" "$(shows 1), $(standing)" "INSTANTIATED
 restore >"$room/out"
 kill "$adapter"
 wait "$adapter" 2>/dev/null
-cp -R "$room/infrastructure" "$room/infrastructure.then"
-cp "$room/lib/journal" "$room/journal.then"
+cp -R "$infrastructure" "$infrastructure.then"
+cp -p "$lib/journal" "$room/journal.then"
 
 # (What the page warns of: the number is given again, and the adapter tells the jobs of the scaling as those of the
 # termination: not all is removed, though the manager counts it so.)
 start_adapter
-line 'systemctl start'
+start_by 'systemctl start'
 asked "terminate, without passing over the number" 202 $one/terminate -d '{"terminationType":"FORCEFUL"}'
 awaits COMPLETED
 leaked=$(standing)
 expect "  the instance" "$(shows 1)" "NOT_INSTANTIATED 0"
 expect "  more stands than the four that were forgotten" "$([ "$leaked" -gt 4 ] && echo yes)" yes
-stop_manager
+line 'systemctl stop'
 kill "$adapter"
 wait "$adapter" 2>/dev/null
-rm -rf "$room/infrastructure"
-mv "$room/infrastructure.then" "$room/infrastructure"
-mv "$room/journal.then" "$room/lib/journal"
+rm -rf "$infrastructure"
+mv "$infrastructure.then" "$infrastructure"
+cp -p "$room/journal.then" "$lib/journal"
 
 start_adapter
 used=$(line 'ls infrastructure/jobs')
 expect "the greatest number of an occurrence that was used" "$used" 2
 expect "the numbers are used up to it" "$(line 'pass_numbers')" "$used"
-line 'systemctl start'
+start_by 'systemctl start'
 asked "terminate" 202 $one/terminate -d '{"terminationType":"FORCEFUL"}'
 awaits COMPLETED
 expect "  the instance, and what stands: what the forgotten scaling made" "$(shows 1), $(standing)" "NOT_INSTANTIATED 0, 4"
@@ -301,7 +332,7 @@ occurrence=$(curl -s "$api/vnf_lcm_op_occs" | python3 -c 'import json, sys; prin
 awaits PROCESSING
 sleep 2
 section='What is logged'
-expect "  it is said" "$(line 'journalctl -u vnfm -p' | sed 's/[0-9][0-9]* calls/N calls/' | sort -u)" "vnfm: infrastructure: N calls failed"
+expect "  it is said" "$(line 'journalctl -u vnfm -p' | grep -o 'vnfm: .*' | sed 's/[0-9][0-9]* calls/N calls/' | sort -u)" "vnfm: infrastructure: N calls failed"
 start_adapter
 awaits FAILED_TEMP
 section='A spoiled night'
@@ -363,32 +394,65 @@ line 'cp '
 line 'mv '
 expect "moved, sums" "$(line 'sha256sum' | cut -d' ' -f1 | sort -u | grep -c .)" 1
 section='When something is full, held or broken'
-expect "its size" "$(sed -n 's#^    \(stat -c %s\) .*#\1#p' "$page")" "stat -c %s"
+cp -p "$lib/journal.moved" "$lib/journal"
+expect "its size" "$(line 'stat -c')" "$(bytes_of "$lib/journal")"
+flock "$lib/journal" sleep 2 &
+sleep 0.5
+expect "who holds it" "$(line 'lslocks' | cut -d' ' -f1)" flock
+wait $!
+expect "nobody holds it" "$(line 'lslocks')" ""
 
-# ---- systemd itself, where it runs: a kill is mended, a status of the list is not
+# ---- systemd itself: what it starts again, and what it doesn't
 
-if [ -d /run/systemd/system ] && [ "$(id -u)" = 0 ]; then
-    unit=vnfm-try-$$ folder=/var/lib/vnfm-try-$$
-    trap 'command systemctl stop $unit; rm -rf "$room" "$folder" "/run/systemd/system/$unit.service"; kill $adapter $orchestrator 2>/dev/null' EXIT
-    install -d -m 0700 -o nobody -g nogroup "$folder"
-    install -m 0755 "$here/.build/vnfm" "$folder.program" && mv "$folder.program" /run/"$unit"
-    install -m 0600 -o nobody -g nogroup "$start" "$folder/journal"
-    sed -e "s#/var/lib/vnfm#$folder#g; s#/usr/local/bin/vnfm#/run/$unit#; s/=vnfm\$/=nobody/; s/^Group=.*/Group=nogroup/" \
-        -e "s/:9000/:$(port)/; s/:9001/:$(port)/; s/^RestartSec=.*/RestartSec=1/" \
-        "$here/examples/vnfm.service" >"/run/systemd/system/$unit.service"
-    command systemctl daemon-reload
-    command systemctl start "$unit"
+# Waits until the unit is in this state, and tells its last status and how often it was started again.
+unit_is() { # STATE
+    tries=0
+    until [ "$(systemctl is-active vnfm)" = "$1" ] || [ "$tries" -ge 150 ]; do
+        tries=$((tries + 1))
+        sleep 0.1
+    done
+    echo "$(systemctl is-active vnfm), status $(systemctl show -P ExecMainStatus vnfm)"
+}
+restarts() {
+    systemctl show -P NRestarts vnfm
+}
+if [ -n "$is_system" ]; then
+    systemctl start vnfm
+    expect "systemd: its user" "$(ps -o user= -p "$(systemctl show -P MainPID vnfm)")" vnfm
+    systemctl kill -s KILL vnfm
+    sleep 7
+    expect "systemd: behind SIGKILL" "$(unit_is active), restarts $(restarts)" "active, status 0, restarts 1"
+    systemctl stop vnfm
+    flock "$lib/journal" sleep 5 &
+    sleep 0.5
+    systemctl start vnfm
+    expect "systemd: a lock that is held" "$(unit_is failed), restarts $(restarts)" "failed, status 3, restarts 0"
+    wait $!
+    cp -p "$lib/journal" "$room/whole"
+    : >"$lib/journal"
+    systemctl start vnfm
+    expect "systemd: no journal" "$(unit_is failed), restarts $(restarts)" "failed, status 5, restarts 0"
+    head -c 500 "$room/whole" >"$lib/journal"
+    systemctl start vnfm
+    expect "systemd: a broken record" "$(unit_is failed), restarts $(restarts)" "failed, status 8, restarts 0"
+    cat "$room/whole" >"$lib/journal"
+    python3 -m http.server --bind 127.0.0.1 9000 >/dev/null 2>&1 &
+    taken=$!
+    sleep 1
+    systemctl start vnfm
+    sleep 8
+    kill "$taken"
+    sleep 6
+    expect "systemd: an address that was taken for some seconds" "$(unit_is active), $(restarts | sed 's/[1-9]/more/')" "active, status 0, more"
+    expect "  and it answers" "$(shows 1)" "INSTANTIATED 4 2"
+    systemctl stop vnfm
+    mv "$lib" "$lib.away"
+    systemctl start vnfm 2>/dev/null
     sleep 2
-    expect "systemd: started" "$(command systemctl is-active "$unit")" active
-    command systemctl kill -s KILL "$unit"
-    sleep 4
-    expect "systemd: behind SIGKILL" "$(command systemctl is-active "$unit"), $(command systemctl show -P NRestarts "$unit")" "active, 1"
-    command systemctl stop "$unit"
-    : >"$folder/journal"
-    command systemctl start "$unit"
-    sleep 4
-    expect "systemd: behind status 5" "$(command systemctl is-active "$unit"), $(command systemctl show -P ExecMainStatus "$unit")" "failed, 5"
+    expect "systemd: no folder" "$(systemctl show -P ExecMainStatus vnfm), $(ls -d "$lib" 2>/dev/null)" "226, "
+    systemctl stop vnfm
+    mv "$lib.away" "$lib"
 else
-    echo "systemd: it isn't what runs here, so the unit was judged by systemd-analyze alone"
+    echo "systemd: under_systemd.sh has it do the same"
 fi
 exit "$differs"
