@@ -436,13 +436,10 @@ if [ -n "$is_system" ]; then
     systemctl start vnfm
     expect "systemd: a broken record" "$(unit_is failed), restarts $(restarts)" "failed, status 8, restarts 0"
     cat "$room/whole" >"$lib/journal"
-    python3 -m http.server --bind 127.0.0.1 9000 >/dev/null 2>&1 &
-    taken=$!
-    sleep 1
+    python3 -c 'import socket, time; it = socket.create_server(("127.0.0.1", 9000)); time.sleep(9)' &
+    listens 9000
     systemctl start vnfm
-    sleep 8
-    kill "$taken"
-    sleep 6
+    sleep 15
     expect "systemd: an address that was taken for some seconds" "$(unit_is active), $(restarts | sed 's/[1-9]/more/')" "active, status 0, more"
     expect "  and it answers" "$(shows 1)" "INSTANTIATED 4 2"
     systemctl stop vnfm

@@ -36,7 +36,8 @@ mount -t tmpfs -o mode=755 tmpfs "$root/run" && mount -t tmpfs -o mode=755 tmpfs
 for node in 'null 3' 'zero 5' 'full 7' 'random 8' 'urandom 9'; do
     mknod -m 666 "$root/dev/${node% *}" c 1 "${node#* }" || exit 1
 done
-mkdir -m 1777 "$root/dev/shm" && ln -s /proc/self/fd "$root/dev/fd" || exit 1
+mkdir -m 1777 "$root/dev/shm" && mkdir "$root/dev/pts" && mount -t devpts devpts "$root/dev/pts" || exit 1
+ln -s pts/ptmx "$root/dev/ptmx" && ln -s /proc/self/fd "$root/dev/fd" || exit 1
 mkdir "$root/share" && mount --bind "$room/share" "$root/share" || exit 1
 ip link set lo up 2>/dev/null || ifconfig lo up || exit 1
 cat >"$root/etc/systemd/system/try.service" <<UNIT
