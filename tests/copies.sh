@@ -2,10 +2,10 @@
 # Copies of a journal that is written meanwhile, by each copier that docs/OPERATING.md calls whole: `serve` records what two
 # clients ask for, one at each address, while the journal is copied in a loop. Each copy is a journal by `check`, its bytes
 # up to its last gate are a front of the final file's, and it has each event that was acknowledged before the copy began.
-# Then copies of a length that was asked for first, behind which something is appended, which are no journals. Half a
-# minute; needs python3.
+# Beside them some by tar, which asks for the length first; and in the end copies of a length that was asked for first, behind
+# which something is appended, which are no journals. Half a minute; needs python3.
 #
-#     tests/copies.sh [COPIES]      240 where nothing is said
+#     tests/copies.sh [COPIES]      270 where nothing is said
 . "$(dirname "$0")/common.sh"
 
 cp "$start" "$room/journal"
@@ -41,6 +41,8 @@ COPIERS = {
     "dd bs=1M": lambda: shell(f"dd if={JOURNAL} of={COPY} bs=1M 2>/dev/null"),
     "reads of any length": lambda: by_reads(),
 }
+# One that asks for the length first, whose copies aren't always journals: these are counted.
+BY_LENGTH = {"tar": lambda: shell(f"tar -C {room} -cf - journal 2>/dev/null | tar -xOf - >{COPY}")}
 # How long a client waits between two requests, and a copy behind an answer, at most, so that copies end in every state of an
 # append; and for how long nothing may be acknowledged; seconds.
 LONGEST_WAIT, PATIENCE = 0.002, 30
@@ -153,7 +155,7 @@ def await_more(clients, than):
 def copy_all(clients):
     """The copies, each with how many events were acknowledged before it began."""
     acknowledged = 0
-    for number, (copier, copy) in zip(range(copies), itertools.cycle(COPIERS.items())):
+    for number, (copier, copy) in zip(range(copies), itertools.cycle({**COPIERS, **BY_LENGTH}.items())):
         await_more(clients, acknowledged)
         acknowledged = acknowledged_by(clients)
         COPY.unlink(missing_ok=True)
@@ -215,14 +217,18 @@ def main():
     if status != -signal.SIGTERM:
         differ(f"serve ended with {status}")
     final = JOURNAL.read_bytes()
-    found = {copier: [0, 0, set()] for copier in COPIERS}
+    found, lost = {copier: [0, 0, set()] for copier in COPIERS}, []
     for copied in all_copied:
+        if copied.copier in BY_LENGTH:
+            lost.append(checked(copied.path)[0])
+            continue
         row = found[copied.copier]
         row[0] += 1
         row[1] += compare(copied, final, before)
         row[2].add(copied.path.stat().st_size)
     for copier, (number, behind, lengths) in found.items():
         print(f"{copier}: {number} copies of {len(lengths)} lengths, {behind} with bytes behind the closed gate")
+    print(f"{', '.join(BY_LENGTH)}: {len(lost)} copies, {len(lost) - lost.count(0)} of them no journals, as may be")
     acknowledged, lost = acknowledged_by(clients), sum(it.lost for it in clients)
     records = len(list(records_of(final)))
     print(f"acknowledged meanwhile: {acknowledged}, lost: {lost}; final records: {records}, {len(final)} bytes")
@@ -235,4 +241,4 @@ def main():
 
 main()
 END
-python3 "$room/copies.py" "$here/.build/vnfm" "$room" "$here/tests" "${1:-240}" || exit 1
+python3 "$room/copies.py" "$here/.build/vnfm" "$room" "$here/tests" "${1:-270}" || exit 1
