@@ -21,7 +21,7 @@ command_of() { # PATTERN
         echo "docs/OPERATING.md, $section, hasn't one command of $1" >&2
         exit 1
     fi
-    printf '%s\n' "$found" | here_are | sed -e "s/journal\.20261202T031500/$newest/; s/ 57\$/ $used/" \
+    printf '%s\n' "$found" | here_are | sed -e "s/journal\.20261202T031500/$newest/; s/ 57 </ $used </" \
         -e "s/8002-8000-000000000002/8002-8000-00000000000${occurrence:-2}/"
 }
 
@@ -314,7 +314,7 @@ cp -p "$room/journal.then" "$lib/journal"
 start_adapter
 used=$(line 'ls infrastructure/jobs')
 expect "the greatest number of an occurrence that was used" "$used" 2
-expect "the numbers are used up to it" "$(line 'pass_numbers')" "$used"
+expect "the numbers are used up to it" "$(line 'pass_numbers.sh')" "$used"
 start_by 'systemctl start'
 asked "terminate" 202 $one/terminate -d '{"terminationType":"FORCEFUL"}'
 awaits COMPLETED
