@@ -314,7 +314,7 @@ cp -p "$room/journal.then" "$lib/journal"
 start_adapter
 used=$(line 'ls infrastructure/jobs')
 expect "the greatest number of an occurrence that was used" "$used" 2
-expect "the numbers are used up to it" "$(line 'pass_numbers.sh')" "$used"
+expect "the numbers are used up to it" "$(line 'pass_numbers.sh')" "occurrence $used, instance $used"
 start_by 'systemctl start'
 asked "terminate" 202 $one/terminate -d '{"terminationType":"FORCEFUL"}'
 awaits COMPLETED
