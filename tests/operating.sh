@@ -22,7 +22,7 @@ command_of() { # PATTERN
         exit 1
     fi
     printf '%s\n' "$found" | here_are | sed -e "s/journal\.20261202T031500/$newest/; s/ 57 </ $used </" \
-        -e "s/8002-8000-000000000002/8002-8000-00000000000${occurrence:-2}/"
+        -e "s/8002-8000-000000000006/8002-8000-00000000000${occurrence:-2}/"
 }
 
 # Does it.
