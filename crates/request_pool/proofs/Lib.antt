@@ -1,1 +1,3 @@
 pub mod FrontLaws
+pub mod HandLaws
+pub mod PoolLaws

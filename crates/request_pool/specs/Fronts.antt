@@ -2,9 +2,9 @@
 use Rattle.std.specs.Prelude.{◌≡◌, ◌≤◌, ◌⊎◌, ℕ, List, length, drop, Option, Some, None}
 use Rattle.httparse.specs.Spans.{span_bytes}
 use Rattle.http_frames.specs.Framing.{closes}
-use Rattle.http_frames.specs.Heads.{HasHead, HasReadLines}
+use Rattle.http_frames.specs.Heads.{HasHead, HasReadLines, frame_as}
 use Rattle.http_frames.specs.Steps.{HasDecoded}
-use Rattle.http_frames.specs.Messages.{Message, ReadsMessage, BeginsBad, BeginsBig, IsLongTarget}
+use Rattle.http_frames.specs.Messages.{Message, HasBody, ReadsMessage, BeginsBad, BeginsBig, IsLongTarget}
 use Rattle.http_frames.specs.declared.chunks.Decoder.{Decoder}
 use Rattle.http_frames.specs.declared.head.HeadParts.{HeadParts}
 use Rattle.http_wire.specs.Intake.{NeedsMore}
@@ -20,6 +20,7 @@ pub record IsWholeAt (bytes : List ℕ) (p : Place) : Type 0 where
   pub head : HasHead bytes p.head
   pub message : Message
   pub reads : ReadsMessage bytes message (drop p.len bytes)
+  pub body : HasBody (frame_as p.head.body) (drop p.head.len bytes) message.body (drop p.len bytes)
   pub within : p.len ≤ length bytes
   pub behind : p.head.len ≤ p.len
   pub method : span_bytes bytes p.head.method ≡ message.head.method

@@ -61,6 +61,15 @@ impl Queue {
             self.passed = 0;
         }
     }
+
+    /// Writes these over the first ones.
+    pub fn write_over(&mut self, front: &[u8])
+        requires { length front.now ≤ length self.old }
+        ensures { self.new ≡ front.now ++ drop (length front.now) self.old }
+    {
+        let end = self.passed + front.len();
+        self.bytes[self.passed..end].copy_from_slice(front);
+    }
 }
 
 /// Drops the first `n` bytes.
