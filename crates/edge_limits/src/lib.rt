@@ -3,6 +3,7 @@
 
 mod laws;
 mod limits;
+mod pace;
 mod pulse;
 
 pub use laws::limits_are_these;
@@ -11,4 +12,5 @@ pub use limits::{
     SILENCE_BEFORE, SILENCE_WITHIN, STUCK, Stage, TAKEN, WAITING, WHOLE, exchange_limit,
     lingering_limit, reading_limit, writing_limit,
 };
+pub use pace::Pace;
 pub use pulse::{FIRST, IDLE, LONGEST, PAUSE, Pulse, pause_of, wait_of};

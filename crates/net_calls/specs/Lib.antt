@@ -1,2 +1,3 @@
 pub mod Connections
 pub mod Network
+pub mod Parked

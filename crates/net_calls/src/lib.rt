@@ -3,15 +3,19 @@
 //! over every one. Connections and a stopwatch in memory tell theirs, and meet silences and limits without a wait.
 #![tactic(auto)]
 
+mod clients;
 mod connections;
 mod network;
+mod parked;
 mod stopwatch;
 mod told_connections;
 mod told_network;
 mod told_stopwatch;
 
+pub use clients::{ClientNet, Line};
 pub use connections::Connection;
 pub use network::{HostNet, NoConnection, Side, StdNet, Taken};
+pub use parked::{Parked, Put, Took};
 pub use stopwatch::{StdStopwatch, Stopwatch};
 pub use told_connections::{MemConnection, Step};
 pub use told_network::{MemListener, MemNet};

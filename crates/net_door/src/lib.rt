@@ -4,11 +4,15 @@
 #![tactic(auto)]
 
 mod conversation;
+mod gathering_door;
 mod real_door;
 mod two_addresses;
 mod waiting;
+mod yard;
 
 pub use conversation::Conversation;
+pub use gathering_door::GatheringDoor;
 pub use real_door::RealDoor;
 pub use two_addresses::{Shut, TwoAddresses};
 pub use waiting::Waiting;
+pub use yard::{Begun, Yard};

@@ -85,6 +85,10 @@ pub record Feeds (line : List ℕ) (clients : List (Option ClientState)) (line_a
   pub in_hand : TakesInHand h.slot client h
   pub others : clients_after ≡ slice_set clients h.slot None
 
+-- nothing of what is fed is left to be read, and the client is closed behind its answer
+abbrev pub skipped : HandState → HandState
+skipped h = record h { given = h.len; closes = true }
+
 -- the next bytes of what is fed were read; from nobody nothing is
 abbrev pub GivesNext : List ℕ → List ℕ → ℕ → Option HandState → Option HandState → Type 0
 GivesNext before after count None new = (count ≡ 0) × (after ≡ before) × (new ≡ None)

@@ -129,6 +129,14 @@ impl Hand {
         self.client.went(count);
     }
 
+    /// Nothing of what is fed is left to be read, and the client is closed behind its answer.
+    pub fn skip(&mut self)
+        ensures { self.new ≡ record self.old { given = self.old.len; closes = true } }
+    {
+        self.given = self.len;
+        self.closes = true;
+    }
+
     /// Puts the next bytes of what is fed to the front of `into`, and gives how many: as many as there is room for, or
     /// all that are left.
     pub fn give(&mut self, into: &mut [u8]) -> usize

@@ -15,5 +15,5 @@ pub use client::Client;
 pub use fronts::{Front, FrontReader, Place};
 pub use gateway::write_over;
 pub use hand::{Answering, Hand};
-pub use pool::{Pool, Turn};
+pub use pool::{Pool, Turn, is_set};
 pub use queue::Queue;

@@ -1,10 +1,10 @@
 //! Many clients, of which one at a time is in hand.
-ghost use Rattle.std.specs.Prelude.{◌≡◌, ◌≤◌, ◌<◌, [], IfOk, IfSome, IsSome, IsTrue, OnErr, OnOk, false, length, true};
+ghost use Rattle.std.specs.Prelude.{◌≡◌, ◌≤◌, ◌<◌, [], IfOk, IfSome, IsSome, IsTrue, OnErr, OnOk, false, length, option_map, true};
 ghost use Rattle.std.specs.Prelude.{slice_index_or, slice_set};
 ghost use Rattle.http_frames.specs.declared.TheConstants.{FIELD_ROOM};
 ghost use Rattle.request_pool.specs.Fronts.{IsWholeAt};
 ghost use Rattle.request_pool.specs.Pools.{Admits, Comes, Feeds, GivesNext, Goes, IsSameOrLonger, PutsBack, PutsToHand, TakesInHand};
-ghost use Rattle.request_pool.specs.Pools.{is_ready, is_set};
+ghost use Rattle.request_pool.specs.Pools.{is_ready, is_set, skipped};
 
 use crate::client::Client;
 use crate::fronts::{Front, Place};
@@ -189,14 +189,16 @@ impl Pool {
     ///
     /// `near_full` says that each client is closed behind its answer.
     ///
-    /// State: nobody is in hand.
+    /// It does nothing where somebody is in hand.
     pub fn feed(&mut self, near_full: bool) -> bool
-        requires { self.old.hand ≡ None }
         ensures fed { IsTrue result → IfSome self.new.hand (Feeds self.old.line.items self.old.clients.items
             self.new.line.items self.new.clients.items) }
         ensures some { IsTrue result → IsSome self.new.hand }
-        ensures none { result ≡ false → self.new.hand ≡ None }
+        ensures none { result ≡ false → self.new.hand ≡ self.old.hand }
     {
+        if self.hand.is_some() {
+            return false;
+        }
         let Some(slot) = self.line.pop_front() else {
             return false;
         };
@@ -222,6 +224,25 @@ impl Pool {
             Some(hand) => hand.give(into),
             None => 0,
         }
+    }
+
+    /// Nothing of what is fed is left to be read, and the client in hand is closed behind its answer: an answer is told
+    /// to it that was made before anything was read.
+    pub fn skip(&mut self)
+        ensures skips { self.new.hand ≡ option_map skipped self.old.hand }
+        ensures clients { self.new.clients.items ≡ self.old.clients.items }
+        ensures line { self.new.line.items ≡ self.old.line.items }
+    {
+        if let Some(hand) = &mut self.hand {
+            hand.skip();
+        }
+    }
+
+    /// How many slots stand in the line.
+    pub fn waiting(&self) -> usize
+        ensures { result ≡ length self.now.line.items }
+    {
+        self.line.len()
     }
 
     /// These bytes of an answer go to the client in hand, and to no other. Without memory a front of them may.
@@ -307,7 +328,7 @@ fn is_ready(client: &Client) -> bool
 }
 
 /// Whether it is known what bytes begin with, and more of them change nothing of it.
-fn is_set(front: Option<Front>) -> bool
+pub fn is_set(front: Option<Front>) -> bool
     ensures { result ≡ is_set front }
 {
     match front {
