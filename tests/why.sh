@@ -138,6 +138,52 @@ else
     echo "skipped: a full file system, one without inodes, a read-only one, and no /dev/null, which need root and mount"
 fi
 
+# ---- A journal that is touched while it is served
+
+free_port() {
+    python3 -c 'import socket; it = socket.socket(); it.bind(("127.0.0.1", 0)); print(it.getsockname()[1])'
+}
+
+# Serves a copy of the journal, has something done to it, and asks for an instance: the answer, the status, and the line.
+touched() { # WHAT WHY COMMAND..
+    what=$1 why=$2
+    shift 2
+    mkdir "$room/served" && cp "$start" "$room/served/journal" || exit 1
+    door=$(free_port) em_door=$(free_port)
+    "$program" serve --journal "$room/served/journal" --listen "127.0.0.1:$door" --em-listen "127.0.0.1:$em_door" \
+        >"$room/out" 2>"$room/err" </dev/null &
+    manager=$! tries=0
+    while [ "$tries" -lt 500 ] && ! grep -q listening "$room/err"; do
+        tries=$((tries + 1))
+        sleep 0.02
+    done
+    before=$(bytes_of "$room/served/journal")
+    (cd "$room/served" && "$@") || exit 1
+    code=$(curl -s -o "$room/answer" -w '%{http_code}' -X POST -H 'Content-Type: application/json' \
+        --data '{"vnfdId":"vnfd-1"}' "http://127.0.0.1:$door/vnflcm/v1/vnf_instances")
+    wait "$manager"
+    expect "serve, $what" "$code, status $?, $(cat "$room/out"), $(tail -n 1 "$room/err")" \
+        "500, status 3, site fault, vnfm: \"$room/served/journal\": $why"
+    expect "  its bytes elsewhere" "$(for file in "$room/served"/*.aside; do [ ! -e "$file" ] || bytes_of "$file"; done)" \
+        "$([ ! -e "$room/served/journal.aside" ] || echo "$before")"
+    rm -rf "$room/served"
+}
+
+touched "a journal that is removed" "it was removed while the program had it open" rm journal
+touched "a journal that is moved away" "nothing stands there any more; it was moved while the program had it open" \
+    mv journal journal.aside
+touched "a journal that another replaces" \
+    "another file stands there; it was moved or removed while the program had it open" \
+    sh -c 'cp journal copy && mv copy journal'
+touched "a journal that is moved away, and made anew" \
+    "another file stands there; it was moved or removed while the program had it open" \
+    sh -c 'mv journal journal.aside && cp journal.aside journal'
+touched "a journal that is cut" "it is shorter than it was; another program cut it" sh -c ': >journal'
+mkdir "$room/beside" && cp "$start" "$room/beside/journal" && ln "$room/beside/journal" "$room/beside/second" || exit 1
+ln -s journal "$room/beside/link" || exit 1
+"$program" once --journal "$room/beside/link" <"$request" >"$room/out" 2>"$room/err"
+expect "once, a second name and a link" "status $?, $(head -n 1 "$room/out" | tr -d '\r')" "status 0, HTTP/1.1 201 Created"
+
 # ---- Descriptors
 
 "$program" init --journal "$room/made" --manager 7 >/dev/null || exit 1

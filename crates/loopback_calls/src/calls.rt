@@ -194,15 +194,15 @@ pub fn abort<'a>(rt: &HostRuntime, site: &mut Vim<'a>) -> Result<()> {
     Ok(())
 }
 
-/// Calls the infrastructure at this address: a look, a begin, eight looks with a tenth of a second between, and an
-/// abort.
+/// Calls the infrastructure at this address: a look, a begin, eight looks with a second between, as between the rounds
+/// of a program behind a call that failed, and an abort.
 pub fn call_vim(rt: &HostRuntime, streams: &Held, at: &str) -> Result<()> {
     let pulse = Cell::new(NOTHING);
     let mut site = real_peer(rt, streams, &pulse, at)?;
     look(rt, &mut site)?;
     begin(rt, &mut site)?;
     for _ in 0..8u8 {
-        thread::sleep(rt, Duration::from_millis(100));
+        thread::sleep(rt, Duration::from_millis(1_000));
         look(rt, &mut site)?;
     }
     abort(rt, &mut site)

@@ -5,3 +5,4 @@ pub mod Faults
 pub mod Having
 pub mod Jobs
 pub mod Site
+pub mod Standing

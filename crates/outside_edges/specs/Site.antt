@@ -74,6 +74,7 @@ IsHeld state hold path folder file old new = IfSome file (λ f. IsHad state hold
 
 -- Why a file couldn't be had, or a call on it failed, by the kind of the fault of the call that failed. That something
 -- is there is said of a making alone, which comes where an opening found nothing: so it is a symbolic link to nothing.
+-- The kinds of an address no call on a file gives: by them it is told that nothing, or another file, stands at its path.
 abbrev pub why_by : ErrorKind → WhyLost
 why_by kind.WouldBlock = why.Locked
 why_by kind.NotFound = why.NoFolder
@@ -87,6 +88,10 @@ why_by kind.InvalidFilename = why.NameTooLong
 why_by kind.StorageFull = why.NoSpace
 why_by kind.QuotaExceeded = why.Quota
 why_by kind.FileTooLarge = why.TooLarge
+why_by kind.StaleNetworkFileHandle = why.Removed
+why_by kind.AddrNotAvailable = why.Moved
+why_by kind.AddrInUse = why.Replaced
+why_by kind.UnexpectedEof = why.Shortened
 why_by kind.OutOfMemory = why.Memory
 why_by _ = why.Other
 

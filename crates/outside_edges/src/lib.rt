@@ -11,6 +11,7 @@ mod real_clock;
 mod real_door;
 mod real_sink;
 mod real_site;
+mod standing;
 
 pub use job_log::JobLog;
 pub use jobs::{Jobs, NoJobs};
@@ -19,3 +20,4 @@ pub use real_clock::RealClock;
 pub use real_door::RealDoor;
 pub use real_sink::RealSink;
 pub use real_site::{FolderSync, RealSite, WhyLost};
+pub use standing::{FileNumber, OpenFile, may_be_written};

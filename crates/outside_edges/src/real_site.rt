@@ -60,6 +60,14 @@ pub enum WhyLost {
     Quota,
     /// It would be larger than a file may be.
     TooLarge,
+    /// It was removed while it was open.
+    Removed,
+    /// It was moved while it was open, so that nothing stands at its path.
+    Moved,
+    /// Another file stands at its path.
+    Replaced,
+    /// It is shorter than it was.
+    Shortened,
     /// There was no memory.
     Memory,
     /// The disk failed, or something else did.
@@ -281,6 +289,10 @@ fn why_of(fault: io::Error) -> WhyLost
         ErrorKind::StorageFull => WhyLost::NoSpace,
         ErrorKind::QuotaExceeded => WhyLost::Quota,
         ErrorKind::FileTooLarge => WhyLost::TooLarge,
+        ErrorKind::StaleNetworkFileHandle => WhyLost::Removed,
+        ErrorKind::AddrNotAvailable => WhyLost::Moved,
+        ErrorKind::AddrInUse => WhyLost::Replaced,
+        ErrorKind::UnexpectedEof => WhyLost::Shortened,
         ErrorKind::OutOfMemory => WhyLost::Memory,
         _ => WhyLost::Other,
     }

@@ -115,6 +115,10 @@ lost_text why.NameTooLong path = codes "a name in the path, or all of it, is too
 lost_text why.NoSpace path = codes "its file system has no space left, or no inode"
 lost_text why.Quota path = codes "the quota on its file system is used up"
 lost_text why.TooLarge path = codes "it would be larger than a file may be"
+lost_text why.Removed path = codes "it was removed while the program had it open"
+lost_text why.Moved path = codes "nothing stands there any more; it was moved while the program had it open"
+lost_text why.Replaced path = codes "another file stands there; it was moved or removed while the program had it open"
+lost_text why.Shortened path = codes "it is shorter than it was; another program cut it"
 lost_text why.Memory path = codes "there was no memory"
 lost_text why.Other path = codes "a call on it failed; if its disk did, the kernel's log says how"
 

@@ -371,6 +371,12 @@ fn lost_text(why: WhyLost, path: Option<&Text>) -> &'static str
         WhyLost::NoSpace => "its file system has no space left, or no inode",
         WhyLost::Quota => "the quota on its file system is used up",
         WhyLost::TooLarge => "it would be larger than a file may be",
+        WhyLost::Removed => "it was removed while the program had it open",
+        WhyLost::Moved =>
+            "nothing stands there any more; it was moved while the program had it open",
+        WhyLost::Replaced =>
+            "another file stands there; it was moved or removed while the program had it open",
+        WhyLost::Shortened => "it is shorter than it was; another program cut it",
         WhyLost::Memory => "there was no memory",
         WhyLost::Other => "a call on it failed; if its disk did, the kernel's log says how",
     }

@@ -10,6 +10,6 @@ mod watched;
 
 pub use faults::{PeerFaults, PeerKind, Told};
 pub use lines::{listening_line, no_listening_line};
-pub use noted_files::{NotedFile, NotedFiles};
+pub use noted_files::{NamedFile, NotedFile, NotedFiles};
 pub use served_door::ServedDoor;
 pub use watched::{WatchedCourier, WatchedJobs, WatchedOrchestrator};

@@ -11,6 +11,7 @@ use site_traits::{
     AbortAnswer, BeginAnswer, Call, Courier, Heard, LookAnswer, Orchestrator, PostAnswer,
 };
 use std::fs::File;
+use std::rt::Files;
 use vnfm_base::Line;
 
 /// An orchestrator whose calls that fail are counted.
@@ -117,7 +118,8 @@ impl<'a, J: Jobs<File> + Drop> WatchedJobs<'a, J> {
     }
 }
 
-impl<'a, 'f, J: Jobs<File> + Drop> Jobs<NotedFile<'f>> for WatchedJobs<'a, J> {
+impl<'a, 'f, R: Files<File = File>, J: Jobs<File> + Drop> Jobs<NotedFile<'f, R>>
+    for WatchedJobs<'a, J> {
     ghost manager = { λ w. J.manager w.jobs };
 
     ghost calls = { λ w. J.calls w.jobs };

@@ -1,3 +1,4 @@
 pub mod Lines
 pub mod Links
+pub mod Rests
 pub mod Sent

@@ -6,6 +6,7 @@ ghost use Rattle.outside_edges.specs.Jobs.{JobCall};
 ghost use Rattle.vim_wire.specs.Lines.{call_line};
 ghost use Rattle.vim_wire.specs.declared.lines.VimCall.TheVariants as calls;
 ghost use Rattle.vim_peers.specs.Links.{IsReady, IsSaid, abort_by, begin_by, look_by};
+ghost use Rattle.vim_peers.specs.Rests.{no_rest, rests};
 ghost use Rattle.vim_peers.specs.Sent.{GoesOut, HadShown, has_aborted, has_begun, has_looked};
 
 use crate::link::VimLink;
@@ -109,6 +110,8 @@ impl<'a, N: HostNet + Drop, T: Stopwatch + Drop> Jobs<File> for VimPeer<'a, N, T
         let answer = begun(self.alloc, &mut self.link, self.manager, tag, act);
         if let BeginAnswer::Failed = answer {
             note_failed(self.pulse);
+        } else {
+            self.link.wake();
         }
         self.log = self.log.with(&(tag, act, answer));
         answer
@@ -122,6 +125,9 @@ impl<'a, N: HostNet + Drop, T: Stopwatch + Drop> Jobs<File> for VimPeer<'a, N, T
         ensures sends { N.tells → N.Connection.tells → GoesOut N.Connection.outgoing
             (call_line (calls.Look self.old.manager tag.now)) (has_looked result) self.old.link.opened
             (offer_of (N.peers self.old.link.net (string_bytes self.old.link.address))) self.new.link.opened }
+        ensures rests { T.tells → IsTrue (rests self.old.link.rest (T.shows self.old.link.watch))
+            → (result ≡ LookAnswer.Failed) × (self.new.link.net ≡ self.old.link.net)
+            × (self.new.link.opened ≡ self.old.link.opened) }
     {
         note_asked(self.pulse);
         let answer = looked(self.alloc, &mut self.link, self.manager, tag);
@@ -140,6 +146,9 @@ impl<'a, N: HostNet + Drop, T: Stopwatch + Drop> Jobs<File> for VimPeer<'a, N, T
         ensures sends { N.tells → N.Connection.tells → GoesOut N.Connection.outgoing
             (call_line (calls.Abort self.old.manager tag.now)) (has_aborted result) self.old.link.opened
             (offer_of (N.peers self.old.link.net (string_bytes self.old.link.address))) self.new.link.opened }
+        ensures rests { T.tells → IsTrue (rests self.old.link.rest (T.shows self.old.link.watch))
+            → (result ≡ AbortAnswer.Failed) × (self.new.link.net ≡ self.old.link.net)
+            × (self.new.link.opened ≡ self.old.link.opened) }
     {
         let answer = aborted(self.alloc, &mut self.link, self.manager, tag);
         if let AbortAnswer::Failed = answer {
@@ -198,12 +207,14 @@ fn looked<N: HostNet + Drop, T: Stopwatch + Drop>(
     ensures sends { N.tells → N.Connection.tells → GoesOut N.Connection.outgoing
         (call_line (calls.Look manager tag.now)) (has_looked result) link.old.opened
         (offer_of (N.peers link.old.net (string_bytes link.old.address))) link.new.opened }
+    ensures rests { T.tells → IsTrue (rests link.old.rest (T.shows link.old.watch))
+        → (result ≡ LookAnswer.Failed) × (link.new.net ≡ link.old.net) × (link.new.opened ≡ link.old.opened) }
 {
     link.forget();
     let Ok(line) = look_line(alloc, manager, tag) else {
         return LookAnswer::Failed;
     };
-    match link.call(line.as_slice()) {
+    match link.ask(line.as_slice()) {
         Ok(reply) => look_answer(reply),
         Err(_) => LookAnswer::Failed,
     }
@@ -234,12 +245,14 @@ fn aborted<N: HostNet + Drop, T: Stopwatch + Drop>(
     ensures sends { N.tells → N.Connection.tells → GoesOut N.Connection.outgoing
         (call_line (calls.Abort manager tag.now)) (has_aborted result) link.old.opened
         (offer_of (N.peers link.old.net (string_bytes link.old.address))) link.new.opened }
+    ensures rests { T.tells → IsTrue (rests link.old.rest (T.shows link.old.watch))
+        → (result ≡ AbortAnswer.Failed) × (link.new.net ≡ link.old.net) × (link.new.opened ≡ link.old.opened) }
 {
     link.forget();
     let Ok(line) = abort_line(alloc, manager, tag) else {
         return AbortAnswer::Failed;
     };
-    match link.call(line.as_slice()) {
+    match link.ask(line.as_slice()) {
         Ok(reply) => abort_answer(reply),
         Err(_) => AbortAnswer::Failed,
     }

@@ -6,8 +6,10 @@ mod jobs;
 mod link;
 mod opened;
 mod replies;
+mod resting;
 
 pub use jobs::VimPeer;
 pub use link::VimLink;
 pub use opened::Opened;
 pub use replies::LineReply;
+pub use resting::Rest;

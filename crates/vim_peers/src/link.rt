@@ -1,16 +1,18 @@
 //! The one connection to an infrastructure.
 ghost use Rattle.std.specs.Prelude.{◌≡◌, ◌≤◌, ◌<◌, ◌^◌, ◌≢◌, [], IsTrue, IfOk, IfSome, OnErr, OnOk, None, Some, true};
-ghost use Rattle.std.specs.Prelude.{false};
+ghost use Rattle.std.specs.Prelude.{false, IsErr};
 ghost use Rattle.std.specs.Result.{is_ok, result_err};
 ghost use Rattle.std.specs.String.{string_bytes};
 ghost use Rattle.net_calls.specs.Network.{offer_of};
 ghost use Rattle.peer_exchange.specs.Exchanges.{Counts, IsSent, IsTimed, last_look};
 ghost use Rattle.vim_peers.specs.Lines.{IsLineOf, IsNoLine};
 ghost use Rattle.vim_peers.specs.Links.{EndsBeforeNext, IsFree, IsReady, IsSpent};
+ghost use Rattle.vim_peers.specs.Rests.{no_rest, rest_after, rests};
 ghost use Rattle.vim_peers.specs.Sent.{ConnectsAtMostOnce, CountsOn, GoesOut, HadShown};
 
 use crate::opened::Opened;
 use crate::replies::LineReply;
+use crate::resting::Rest;
 use edge_limits::{CONNECT, ENDING, INFRASTRUCTURE};
 use net_calls::{Connection, HostNet, Stopwatch};
 use peer_exchange::{Lost, Room, exchange, look_now};
@@ -31,13 +33,14 @@ pub struct VimLink<N: HostNet + Drop, T: Stopwatch + Drop> {
     watch: T,
     address: String,
     opened: Option<Opened<N::Connection>>,
+    rest: Rest,
     pub room: Room,
 }
 
 impl<N: HostNet + Drop, T: Stopwatch + Drop> VimLink<N, T> {
-    /// A link to nowhere, with the room for every reply. No connection is open.
+    /// A link to nowhere, with the room for every reply. No connection is open, and no silence was met.
     pub fn new(alloc: Global, net: N, watch: T) -> Result<VimLink<N, T>, AllocError>
-        ensures { IfOk result (λ link. (link.opened ≡ None) × (link.net ≡ net)) }
+        ensures { IfOk result (λ link. (link.opened ≡ None) × (link.net ≡ net) × (link.rest ≡ no_rest)) }
     {
         let room = Room::new(alloc, LINE_BYTES)?;
         Ok(VimLink {
@@ -45,6 +48,7 @@ impl<N: HostNet + Drop, T: Stopwatch + Drop> VimLink<N, T> {
             watch,
             address: String::new(alloc),
             opened: None,
+            rest: Rest::none(),
             room,
         })
     }
@@ -70,7 +74,7 @@ impl<N: HostNet + Drop, T: Stopwatch + Drop> VimLink<N, T> {
     pub fn connect(&mut self) -> bool
         ensures ready { IsTrue result → IsReady self.new.opened }
         ensures spent { result ≡ false → IsSpent self.new.opened }
-        ensures room { self.new.room ≡ self.old.room }
+        ensures room { (self.new.room ≡ self.old.room) × (self.new.rest ≡ self.old.rest) }
         ensures one { N.Connection.tells → EndsBeforeNext N.Connection.incoming self.old.opened self.new.opened }
         ensures sends_nothing { N.tells → N.Connection.tells
             → IfSome self.new.opened (λ o. HadShown N.Connection.outgoing self.old.opened
@@ -108,6 +112,38 @@ impl<N: HostNet + Drop, T: Stopwatch + Drop> VimLink<N, T> {
         }
     }
 
+    /// The infrastructure has answered, so that no pause runs.
+    pub fn wake(&mut self)
+        ensures { self.new ≡ record self.old { rest = no_rest } }
+    {
+        self.rest = Rest::none();
+    }
+
+    /// Sends this line, which is of a look or an abort, once, and gives the reply; but while a pause behind a silence
+    /// runs nothing is sent and nobody waited on, and there is none.
+    pub fn ask(&mut self, line: &[u8]) -> Result<VimReply, Lost>
+        ensures said { IfOk result (IsLineOf self.new.room.bytes.items) }
+        ensures lost { OnErr result (IsNoLine self.new.room.bytes.items) }
+        ensures sends { N.tells → N.Connection.tells → GoesOut N.Connection.outgoing line.now
+            (is_ok result) self.old.opened (offer_of (N.peers self.old.net (string_bytes self.old.address)))
+            self.new.opened }
+        ensures rests { T.tells → IsTrue (rests self.old.rest (T.shows self.old.watch))
+            → IsErr result × (self.new ≡ record self.old { watch = self.new.watch; room = self.new.room }) }
+        ensures rest { T.tells → rests self.old.rest (T.shows self.old.watch) ≡ false
+            → self.new.rest ≡ rest_after self.old.rest (is_ok result) (T.shows self.old.watch)
+            (T.shown self.new.watch) }
+    {
+        self.forget();
+        let began = self.watch.millis();
+        if self.rest.runs(began) {
+            return Err(Lost::Unsent);
+        }
+        let done = self.call(line);
+        let ended = self.watch.millis();
+        self.rest = self.rest.after(done.is_ok(), began, ended);
+        done
+    }
+
     /// Sends this line once, and gives the reply.
     pub fn call(&mut self, line: &[u8]) -> Result<VimReply, Lost>
         ensures said { IfOk result (IsLineOf self.new.room.bytes.items) }
@@ -122,6 +158,7 @@ impl<N: HostNet + Drop, T: Stopwatch + Drop> VimLink<N, T> {
         ensures address { self.new.address ≡ self.old.address }
         ensures unreached { N.tells → self.new.opened ≡ None
             → offer_of (N.peers self.old.net (string_bytes self.old.address)) ≡ None }
+        ensures rest { self.new.rest ≡ self.old.rest }
         ensures in_limits { N.Connection.tells → T.tells → IsFree N.Connection.quiet self.old.opened
             → IfSome self.new.opened (λ o. IsTimed self.new.room.most
             (last_look INFRASTRUCTURE (T.shows self.old.watch) (T.shown self.new.watch))
@@ -198,8 +235,8 @@ fn is_ready<C: Connection + Drop>(opened: &mut Opened<C>) -> bool
     !opened.failed && (!opened.used || opened.connection.is_quiet())
 }
 
-/// Ends this side of the connection, and reads what still comes. Whether it came to its end. No call is made on it any
-/// more.
+/// Ends this side of the connection, and reads what has come, without a wait. Whether it came to its end. No call is
+/// made on it any more.
 fn has_ended<C: Connection + Drop, T: Stopwatch>(opened: &mut Opened<C>, watch: &mut T) -> bool
     ensures failed { opened.new.failed ≡ true }
     ensures used { opened.new.used ≡ opened.old.used }
@@ -214,6 +251,9 @@ fn has_ended<C: Connection + Drop, T: Stopwatch>(opened: &mut Opened<C>, watch: 
     };
     let mut dropped = [0u8; DROPPED_BYTES];
     'reads: for _ in 0..READS {
+        if opened.connection.is_quiet() {
+            return false;
+        }
         let Some(look) = look_now(watch, ENDING, began) else {
             return false;
         };

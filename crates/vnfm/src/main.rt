@@ -64,7 +64,7 @@ impl Shared {
 /// Starts the program with this door and these peers. Where there is no door, it says that there is no memory.
 fn start_with<
     'a,
-    J: Jobs<NotedFile<'a>> + Drop,
+    J: Jobs<NotedFile<'a, HostRuntime>> + Drop,
     Q: Orchestrator + Drop,
     C: Courier + Drop,
     D: AnswerDoor + Drop,
@@ -78,7 +78,7 @@ fn start_with<
 ) -> u8 {
     let mut machine = Machine {
         device: NullFiles::of(rt),
-        files: NotedFiles::of(rt, &shared.pulse),
+        files: NotedFiles::of(rt.alloc(), rt, &shared.pulse),
         site: RealSite::made(jobs),
         spare: RealSite::made(NoJobs::made()),
         orchestrator,

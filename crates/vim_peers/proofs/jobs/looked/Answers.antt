@@ -9,10 +9,10 @@ use Rattle.vim_peers.proofs.jobs.looked.Goals as goal
 pub returns-in_default-clause-sends : goal.returns-in_default-clause-sends
 returns-in_default-clause-sends g c = λ tells told. nothing_goes_out _ _ _ _ _ (ap (λ l. l.opened) c.forget.ensures.rest)
 
-pub returns-in-Ok-call-clause-said : goal.returns-in-Ok-call-clause-said
-returns-in-Ok-call-clause-said g c = said_by _ _ _ _ _ c.in-Ok-call.ensures.said c.look_answer.ensures
+pub returns-in-Ok-ask-clause-said : goal.returns-in-Ok-ask-clause-said
+returns-in-Ok-ask-clause-said g c = said_by _ _ _ _ _ c.in-Ok-ask.ensures.said c.look_answer.ensures
 
-pub returns-in-Ok-call-clause-sends : goal.returns-in-Ok-call-clause-sends
-returns-in-Ok-call-clause-sends g c = λ tells told.
+pub returns-in-Ok-ask-clause-sends : goal.returns-in-Ok-ask-clause-sends
+returns-in-Ok-ask-clause-sends g c = λ tells told.
     line_goes_out _ _ _ _ _ _ _ _ _ (c.as_slice.ensures ∙ c.in-Ok.ensures.line) (ap (λ l. l.opened) c.forget.ensures.rest)
-    (ap (λ l. offer_of (g.N.HostNet.peers l.net (string_bytes l.address))) c.forget.ensures.rest) (c.in-Ok-call.ensures.sends tells told)
+    (ap (λ l. offer_of (g.N.HostNet.peers l.net (string_bytes l.address))) c.forget.ensures.rest) (c.in-Ok-ask.ensures.sends tells told)
