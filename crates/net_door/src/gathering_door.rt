@@ -97,18 +97,6 @@ fn take_recorded(pulse: &Cell<Pulse>, pace: &Cell<Pace>) -> bool {
     true
 }
 
-/// Tells when a round is due behind an answer that was told.
-fn hurry_by<N: ClientNet + Drop, T: Stopwatch + Drop>(
-    yard: &mut Yard<N, T>,
-    pulse: &Cell<Pulse>,
-    pace: &Cell<Pace>,
-    paused: bool,
-) {
-    if take_recorded(pulse, pace) {
-        yard.hurry(if paused && !yard.is_accepted() { 1_000 } else { 0 });
-    }
-}
-
 impl<'a, N: ClientNet + Drop, T: Stopwatch + Drop> Door for GatheringDoor<'a, N, T> {
     ghost use Rattle.net_door.specs.AtHand.{counts_of, nothing_told};
     ghost use Rattle.site_traits.specs.Door.{write_counts};
@@ -148,13 +136,16 @@ impl<'a, N: ClientNet + Drop, T: Stopwatch + Drop> Door for GatheringDoor<'a, N,
     fn write(&mut self, bytes: &[u8]) -> WriteAnswer {
         count_one(&mut self.writes);
         self.yard.write(bytes);
-        hurry_by(&mut self.yard, self.pulse, self.pace, false);
+        if take_recorded(self.pulse, self.pace) {
+            self.yard.hurry();
+        }
         WriteAnswer::Took(bytes.len())
     }
 
     fn hang_up(&mut self) {
         self.yard.end();
         self.up = false;
+        // What a session recorded without an answer is no act of a round.
         let _ = take_recorded(self.pulse, self.pace);
     }
 }

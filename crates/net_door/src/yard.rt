@@ -103,6 +103,7 @@ pub struct Yard<N: ClientNet + Drop, T: Stopwatch + Drop> {
     ended: bool,
     failing: bool,
     accepted: bool,
+    lost: bool,
     due: u64,
     paused: bool,
     apart: u64,
@@ -139,6 +140,7 @@ impl<N: ClientNet + Drop, T: Stopwatch + Drop> Yard<N, T> {
             ended: false,
             failing: false,
             accepted: false,
+            lost: false,
             due: 0,
             paused: false,
             apart: 0,
@@ -173,10 +175,12 @@ impl<N: ClientNet + Drop, T: Stopwatch + Drop> Yard<N, T> {
         self.paused = paused;
     }
 
-    /// The next round is due so many milliseconds from now at the latest.
-    pub fn hurry(&mut self, wait: u32) {
+    /// Something was recorded with the last answer: a round is due at once, or behind a second where a pause runs and
+    /// nothing is under way for it.
+    pub fn hurry(&mut self) {
         let now = self.now();
-        self.due = self.due.min(now.saturating_add(u64::from(wait)));
+        let wait = if self.paused && !self.accepted { APART } else { 0 };
+        self.due = self.due.min(now.saturating_add(wait));
     }
 
     /// Waits until a client has a request, and feeds it as the first of a gathered connection; or until a round is due.
@@ -221,6 +225,7 @@ impl<N: ClientNet + Drop, T: Stopwatch + Drop> Yard<N, T> {
         self.settle(false);
         self.fed = self.fed.saturating_add(1);
         self.accepted = false;
+        self.lost = false;
         let near_full = self.count.saturating_add(self.most / 16) >= self.most;
         self.pool.feed(near_full)
     }
@@ -330,6 +335,9 @@ impl<N: ClientNet + Drop, T: Stopwatch + Drop> Yard<N, T> {
     /// These bytes are of the answer to what was fed last. An answer that was made before anything was read is that of
     /// whoever is next, or of nobody.
     pub fn write(&mut self, bytes: &[u8]) {
+        if self.lost {
+            return;
+        }
         let awaited = match self.pool.hand() {
             Some(hand) => hand.answer(),
             None => Answering::Whole,
@@ -359,13 +367,9 @@ impl<N: ClientNet + Drop, T: Stopwatch + Drop> Yard<N, T> {
         }
     }
 
-    /// Whether the last answer said that what was asked for is under way.
-    pub fn is_accepted(&self) -> bool {
-        self.accepted
-    }
-
-    /// The client in hand gets nothing more.
+    /// The client in hand gets nothing more, and what is still written of its answer goes to nobody.
     fn lose_hand(&mut self) {
+        self.lost = true;
         if let Some(slot) = self.pool.settle(true) {
             if let Some(seat) = self.seats.get_mut(slot) {
                 seat.lost = true;

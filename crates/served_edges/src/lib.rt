@@ -5,6 +5,7 @@
 mod faults;
 mod lines;
 mod noted_files;
+mod paces;
 mod served_door;
 mod watched;
 

@@ -1,6 +1,7 @@
 //! The machine's files, of which a door's pulse is told when one is written. A file is written only where it is the one
 //! that stands at the path that it was opened at.
-use edge_limits::Pulse;
+use crate::paces::note_write;
+use edge_limits::{Pace, Pulse};
 use host_calls::{HostFile, HostFiles, StdFiles};
 use outside_edges::{FileNumber, OpenFile, may_be_written};
 use standard_streams::HeldStreams;
@@ -29,6 +30,7 @@ pub struct NotedFile<'a, R: Files<File = File>> {
     rt: &'a R,
     named: NamedFile,
     pulse: &'a Cell<Pulse>,
+    pace: &'a Cell<Pace>,
 }
 
 /// Which file the system tells of.
@@ -87,6 +89,7 @@ impl<'a, R: Files<File = File>> HostFile for NotedFile<'a, R> {
         let mut noted = self.pulse.get();
         noted.acted = true;
         self.pulse.set(noted);
+        note_write(self.pace);
         look_at(self.rt, &self.named, at)?;
         HostFile::write_all_at(&mut self.named.file, bytes, at)
     }
@@ -107,16 +110,23 @@ pub struct NotedFiles<'a, R: Files<File = File>> {
     rt: &'a R,
     files: StdFiles<'a, R>,
     pulse: &'a Cell<Pulse>,
+    pace: &'a Cell<Pace>,
 }
 
 impl<'a, R: Files<File = File>> NotedFiles<'a, R> {
-    /// The files of this runtime, and the pulse that is told.
-    pub fn of(alloc: Global, rt: &'a R, pulse: &'a Cell<Pulse>) -> NotedFiles<'a, R> {
+    /// The files of this runtime, and the pulse and the pace that are told.
+    pub fn of(
+        alloc: Global,
+        rt: &'a R,
+        pulse: &'a Cell<Pulse>,
+        pace: &'a Cell<Pace>,
+    ) -> NotedFiles<'a, R> {
         NotedFiles {
             alloc,
             rt,
             files: StdFiles::of(rt),
             pulse,
+            pace,
         }
     }
 }
@@ -177,6 +187,7 @@ impl<'a, R: Files<File = File>> HostFiles for NotedFiles<'a, R> {
             rt: self.rt,
             named: opened,
             pulse: self.pulse,
+            pace: self.pace,
         }
     }
 }

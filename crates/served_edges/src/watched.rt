@@ -5,30 +5,43 @@ ghost use Rattle.site_traits.specs.Peers.{Asks, CallCause, Polls, PostCause, Pos
 
 use crate::faults::{PeerFaults, PeerKind};
 use crate::noted_files::NotedFile;
+use crate::paces::{note_act, note_fault, note_grant, note_look, note_post};
+use edge_limits::Pace;
 use lcm_events::{Act, Tag};
 use outside_edges::Jobs;
 use site_traits::{
     AbortAnswer, BeginAnswer, Call, Courier, Heard, LookAnswer, Orchestrator, PostAnswer,
 };
+use std::alloc::Global;
+use std::cell::Cell;
 use std::fs::File;
 use std::rt::Files;
 use vnfm_base::Line;
 
-/// An orchestrator whose calls that fail are counted.
+/// An orchestrator whose calls that fail are counted, and of which it is noted whether a grant was decided.
 #[derive(Drop)]
 pub struct WatchedOrchestrator<'a, O: Orchestrator + Drop> {
+    alloc: Global,
     orchestrator: O,
     faults: &'a PeerFaults,
+    pace: &'a Cell<Pace>,
 }
 
 impl<'a, O: Orchestrator + Drop> WatchedOrchestrator<'a, O> {
-    /// This orchestrator, whose faults are counted there.
-    pub fn made(orchestrator: O, faults: &'a PeerFaults) -> WatchedOrchestrator<'a, O>
+    /// This orchestrator, whose faults are counted there, and what comes of its calls noted here.
+    pub fn made(
+        alloc: Global,
+        orchestrator: O,
+        faults: &'a PeerFaults,
+        pace: &'a Cell<Pace>,
+    ) -> WatchedOrchestrator<'a, O>
         ensures { result.orchestrator ≡ orchestrator }
     {
         WatchedOrchestrator {
+            alloc,
             orchestrator,
             faults,
+            pace,
         }
     }
 
@@ -53,6 +66,7 @@ impl<'a, O: Orchestrator + Drop> Orchestrator for WatchedOrchestrator<'a, O> {
     {
         let call = self.orchestrator.ask(body, heard);
         self.note(call);
+        note_grant(self.alloc, self.pace, true, call, heard);
         call
     }
 
@@ -63,23 +77,29 @@ impl<'a, O: Orchestrator + Drop> Orchestrator for WatchedOrchestrator<'a, O> {
     {
         let call = self.orchestrator.poll(location, heard);
         self.note(call);
+        note_grant(self.alloc, self.pace, false, call, heard);
         call
     }
 }
 
-/// A courier whose posts that fail are counted.
+/// A courier whose posts that fail are counted, and of which it is noted whether a notice was taken.
 #[derive(Drop)]
 pub struct WatchedCourier<'a, C: Courier + Drop> {
     courier: C,
     faults: &'a PeerFaults,
+    pace: &'a Cell<Pace>,
 }
 
 impl<'a, C: Courier + Drop> WatchedCourier<'a, C> {
-    /// This courier, whose faults are counted there.
-    pub fn made(courier: C, faults: &'a PeerFaults) -> WatchedCourier<'a, C>
+    /// This courier, whose faults are counted there, and what comes of its posts noted here.
+    pub fn made(courier: C, faults: &'a PeerFaults, pace: &'a Cell<Pace>) -> WatchedCourier<'a, C>
         ensures { result.courier ≡ courier }
     {
-        WatchedCourier { courier, faults }
+        WatchedCourier {
+            courier,
+            faults,
+            pace,
+        }
     }
 }
 
@@ -95,6 +115,7 @@ impl<'a, C: Courier + Drop> Courier for WatchedCourier<'a, C> {
         ensures cause { PostCause result (C.counts self.old.courier) (C.counts self.new.courier) }
     {
         let answer = self.courier.post(uri, body);
+        note_post(self.pace, answer);
         if let PostAnswer::Failed = answer {
             self.faults.count(PeerKind::Subscriber);
         }
@@ -107,14 +128,15 @@ impl<'a, C: Courier + Drop> Courier for WatchedCourier<'a, C> {
 pub struct WatchedJobs<'a, J: Jobs<File> + Drop> {
     jobs: J,
     faults: &'a PeerFaults,
+    pace: &'a Cell<Pace>,
 }
 
 impl<'a, J: Jobs<File> + Drop> WatchedJobs<'a, J> {
-    /// This infrastructure, whose faults are counted there.
-    pub fn made(jobs: J, faults: &'a PeerFaults) -> WatchedJobs<'a, J>
+    /// This infrastructure, whose faults are counted there, and what comes of its calls noted here.
+    pub fn made(jobs: J, faults: &'a PeerFaults, pace: &'a Cell<Pace>) -> WatchedJobs<'a, J>
         ensures { result.jobs ≡ jobs }
     {
-        WatchedJobs { jobs, faults }
+        WatchedJobs { jobs, faults, pace }
     }
 }
 
@@ -139,6 +161,7 @@ impl<'a, 'f, R: Files<File = File>, J: Jobs<File> + Drop> Jobs<NotedFile<'f, R>>
         let open = self.jobs.connect();
         if !open {
             self.faults.count(PeerKind::Infrastructure);
+            note_fault(self.pace);
         }
         open
     }
@@ -149,8 +172,12 @@ impl<'a, 'f, R: Files<File = File>, J: Jobs<File> + Drop> Jobs<NotedFile<'f, R>>
         ensures asks { J.calls self.new.jobs ≡ JobCall.beginning tag.now act.now result ∷ J.calls self.old.jobs }
     {
         let answer = self.jobs.begin(tag, act);
-        if let BeginAnswer::Failed = answer {
-            self.faults.count(PeerKind::Infrastructure);
+        match answer {
+            BeginAnswer::Failed => {
+                self.faults.count(PeerKind::Infrastructure);
+                note_fault(self.pace);
+            }
+            BeginAnswer::Begun | BeginAnswer::Refused(_) => note_act(self.pace),
         }
         answer
     }
@@ -161,6 +188,7 @@ impl<'a, 'f, R: Files<File = File>, J: Jobs<File> + Drop> Jobs<NotedFile<'f, R>>
         ensures asks { J.calls self.new.jobs ≡ JobCall.looking tag.now result ∷ J.calls self.old.jobs }
     {
         let answer = self.jobs.look(tag);
+        note_look(self.pace, answer);
         if let LookAnswer::Failed = answer {
             self.faults.count(PeerKind::Infrastructure);
         }
@@ -173,8 +201,12 @@ impl<'a, 'f, R: Files<File = File>, J: Jobs<File> + Drop> Jobs<NotedFile<'f, R>>
         ensures asks { J.calls self.new.jobs ≡ JobCall.aborting tag.now result ∷ J.calls self.old.jobs }
     {
         let answer = self.jobs.abort(tag);
-        if let AbortAnswer::Failed = answer {
-            self.faults.count(PeerKind::Infrastructure);
+        match answer {
+            AbortAnswer::Failed => {
+                self.faults.count(PeerKind::Infrastructure);
+                note_fault(self.pace);
+            }
+            AbortAnswer::Asked => note_act(self.pace),
         }
         answer
     }

@@ -1,13 +1,13 @@
 //! The program `vnfm`: it makes the real objects, and hands them to the program's one call.
 #![tactic(auto)]
 
-use edge_limits::Pulse;
+use edge_limits::{Pace, Pulse};
 use host_calls::StdTime;
 use http_peers::{RealCourier, RealOrchestrator, TargetFault};
 use lcm_events::Role;
 use lcm_mouth::Mouth;
 use net_calls::{StdNet, StdStopwatch};
-use net_door::RealDoor as Addresses;
+use net_door::GatheringDoor;
 use outside_edges::{
     Jobs, NoCourier, NoJobs, NoOrchestrator, RealClock, RealDoor, RealSink, RealSite,
 };
@@ -44,10 +44,12 @@ type Carrier<'a> = WatchedCourier<'a, RealCourier<'a, Network<'a>, Watch<'a>>>;
 /// An infrastructure over sockets.
 type Vim<'a> = WatchedJobs<'a, VimPeer<'a, Network<'a>, Watch<'a>>>;
 
-/// What the real objects share: what was done since the door was last asked, and how often calls on peers failed.
+/// What the real objects share: what was done since the door was last asked, what came of the rounds, and how often
+/// calls on peers failed.
 #[derive(Drop)]
 struct Shared {
     pulse: Cell<Pulse>,
+    pace: Cell<Pace>,
     faults: PeerFaults,
 }
 
@@ -56,6 +58,7 @@ impl Shared {
     fn new() -> Shared {
         Shared {
             pulse: Cell::new(Pulse::at_start()),
+            pace: Cell::new(Pace::at_start()),
             faults: PeerFaults::none(),
         }
     }
@@ -78,7 +81,7 @@ fn start_with<
 ) -> u8 {
     let mut machine = Machine {
         device: NullFiles::of(rt),
-        files: NotedFiles::of(rt.alloc(), rt, &shared.pulse),
+        files: NotedFiles::of(rt.alloc(), rt, &shared.pulse, &shared.pace),
         site: RealSite::made(jobs),
         spare: RealSite::made(NoJobs::made()),
         orchestrator,
@@ -123,7 +126,12 @@ fn orchestrator_at<'a>(
     let mut asked = RealOrchestrator::made(rt.alloc(), net, watch, &shared.pulse)?;
     match asked.to(address) {
         Err(TargetFault::Memory) => Err(AllocError),
-        _ => Ok(WatchedOrchestrator::made(asked, &shared.faults)),
+        _ => Ok(WatchedOrchestrator::made(
+            rt.alloc(),
+            asked,
+            &shared.faults,
+            &shared.pace,
+        )),
     }
 }
 
@@ -135,7 +143,7 @@ fn courier_of<'a>(
 ) -> Result<Carrier<'a>, AllocError> {
     let net = StdNet::of(rt, streams);
     let courier = RealCourier::made(rt.alloc(), net, StdStopwatch::of(rt), &shared.pulse)?;
-    Ok(WatchedCourier::made(courier, &shared.faults))
+    Ok(WatchedCourier::made(courier, &shared.faults, &shared.pace))
 }
 
 /// The infrastructure at this address.
@@ -148,7 +156,7 @@ fn vim_at<'a>(
     let net = StdNet::of(rt, streams);
     let mut vim = VimPeer::made(rt.alloc(), net, StdStopwatch::of(rt), &shared.pulse)?;
     vim.to(address)?;
-    Ok(WatchedJobs::made(vim, &shared.faults))
+    Ok(WatchedJobs::made(vim, &shared.faults, &shared.pace))
 }
 
 /// Starts the program with this door and the peers at the addresses that these settings name.
@@ -192,7 +200,8 @@ fn start_at_addresses(
     settings: &Settings,
 ) -> u8 {
     let net = StdNet::of(rt, streams);
-    match Addresses::made(rt.alloc(), net, StdStopwatch::of(rt), &shared.pulse) {
+    let watch = StdStopwatch::of(rt);
+    match GatheringDoor::made(rt.alloc(), net, watch, &shared.pulse, &shared.pace) {
         Ok(mut addresses) => {
             let listens = addresses.listen(settings.listen.as_str(), settings.em_listen.as_str());
             say_where(rt, settings, listens);
