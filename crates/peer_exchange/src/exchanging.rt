@@ -49,7 +49,7 @@ pub struct Spent {
 #[derive(Drop)]
 pub struct Room {
     pub bytes: Vec<u8>,
-    piece: Vec<u8>,
+    pub(crate) piece: Vec<u8>,
     /// Bytes of the longest reply.
     pub most: usize,
     ghost some: { 1 ≤ vec_len piece },
