@@ -1,9 +1,9 @@
 -- A reply that is read on.
-use Rattle.std.proofs.Common.{◌≡◌, ◌≤◌, ℕ, List, [], ◌++◌, length, take, drop, sym, ap, subst, ◌∙◌, arith}
+use Rattle.std.proofs.Common.{◌≡◌, ◌≤◌, ℕ, List, [], ◌++◌, length, take, drop, sym, ap, ◌∙◌, arith}
 use Rattle.std.proofs.lemmas.List.{append-nil, append_assoc, take-append-drop}
 use Rattle.std.proofs.lemmas.Grind.{common_steps}
 use Rattle.host_calls.specs.Streams.{Got, Incoming}
-use Rattle.peer_exchange.specs.Exchanges.{HasJudgedFront, HasRead}
+use Rattle.peer_exchange.specs.Exchanges.{HasJudgedFront}
 use Rattle.peer_exchange.specs.GoingOn.{ReadsOn}
 
 -- a front that is as long as a piece is that of the piece's front
