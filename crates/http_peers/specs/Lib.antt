@@ -1,4 +1,5 @@
 pub mod Gone
+pub mod Kept
 pub mod Peers
 pub mod Sent
 pub mod Targets

@@ -5,16 +5,18 @@ use Rattle.std.specs.String.{string_bytes}
 use Rattle.edge_limits.specs.declared.limits.Exchange.{Exchange}
 use Rattle.net_calls.specs.Connections.{Vain}
 use Rattle.net_calls.specs.Network.{offers_after}
-use Rattle.peer_exchange.specs.Exchanges.{Counts, IsLost, IsSent, IsTimed}
+use Rattle.peer_exchange.specs.Exchanges.{Counts, IsLost, IsSent, IsTimed, last_look}
 use Rattle.peer_exchange.specs.declared.exchanging.Lost.{Lost}
-use Rattle.peer_exchange.specs.declared.looking.Look.{Look}
 use Rattle.http_client.specs.Responses.{AreAnswer, whole}
 use Rattle.site_traits.specs.Answer.{Answer}
 use Rattle.site_traits.specs.declared.courier.PostAnswer.{PostAnswer}
 use Rattle.site_traits.specs.declared.courier.PostAnswer.TheVariants as post
 use Rattle.site_traits.specs.declared.orchestrator.Call.{Call}
 use Rattle.site_traits.specs.declared.orchestrator.Call.TheVariants as call
+use Rattle.host_calls.specs.Streams.{Incoming}
 use Rattle.http_peers.specs.Gone.{GoneOut}
+use Rattle.http_peers.specs.Kept.{IsTakenAt, KeptGoesOn, limits_by}
+use Rattle.http_peers.specs.declared.kept.Kept.{Kept}
 use Rattle.http_peers.specs.Peers.{JudgedIs}
 use Rattle.http_peers.specs.declared.faults.CallFault.{CallFault}
 use Rattle.http_peers.specs.declared.faults.CallFault.TheVariants as fault
@@ -89,12 +91,12 @@ pub record IsHeardFrom (came : List ℕ) (heard : Answer) (left : List ℕ) : Ty
   pub first : left ≡ came ++ more
   pub end : ended ≡ true → more ≡ []
 
--- One request went out under these limits on one connection to where it leads: all of it, or as much as by then where
+-- One request went out under the limits of its address on one connection to where it leads: all of it, or as much as by then where
 -- the exchange was lost for this cause. As many calls on it were in vain as the cause says. Where an answer came, that
 -- was heard from this connection.
 pub record SendsTo {C : Type 0} (outgoing : C → List ℕ) (left : C → List ℕ) (vain : C → Vain) (was : Option (Opened C))
-    (offered : List ℕ → Option C) (leads : Target → Type 0) (request : List ℕ → List ℕ → List ℕ) (limits : Exchange)
-    (why : Option Lost) (hears : List ℕ → Type 0) (old new : List GoneOut) : Type 0 where
+    (offered : List ℕ → Option C) (leads : Target → Type 0) (request : List ℕ → List ℕ → List ℕ)
+    (limits : List ℕ → Exchange) (why : Option Lost) (hears : List ℕ → Type 0) (old new : List GoneOut) : Type 0 where
   pub target : Target
   pub connection : C
   pub bytes : List ℕ
@@ -105,7 +107,7 @@ pub record SendsTo {C : Type 0} (outgoing : C → List ℕ) (left : C → List �
   pub gone : new ≡ record {
     address = string_bytes target.address;
     bytes = bytes;
-    limits = limits;
+    limits = limits (string_bytes target.address);
     allowed = allowed;
     vain = in_vain;
   } ∷ old
@@ -116,7 +118,7 @@ pub record SendsTo {C : Type 0} (outgoing : C → List ℕ) (left : C → List �
 -- What goes out for a call, by why it has no answer: the request once, all of it where an answer came; as much of it as
 -- the cause says where the exchange was lost; and nothing for another cause.
 abbrev pub Sends : {C : Type 0} → (C → List ℕ) → (C → List ℕ) → (C → Vain) → Option (Opened C)
-    → (List ℕ → Option C) → (Target → Type 0) → (List ℕ → List ℕ → List ℕ) → Exchange → (List ℕ → Type 0)
+    → (List ℕ → Option C) → (Target → Type 0) → (List ℕ → List ℕ → List ℕ) → (List ℕ → Exchange) → (List ℕ → Type 0)
     → Option CallFault → List GoneOut → List GoneOut → Type 0
 Sends outgoing left vain was offered leads request limits hears None old new =
     SendsTo outgoing left vain was offered leads request limits None hears old new
@@ -141,29 +143,67 @@ abbrev pub IsWhyUnopenedAt : {C : Type 0} → Option (Opened C) → (List ℕ �
 IsWhyUnopenedAt was offered (Ok target) why = IsWhyUnopened was offered (string_bytes target.address) why
 IsWhyUnopenedAt was offered (Err none) why = why ≡ fault_by none
 
--- what goes out for a call to this target, or to none
-abbrev pub SendsBy : {C : Type 0} → (C → List ℕ) → (C → List ℕ) → (C → Vain) → Option (Opened C)
-    → (List ℕ → Option C) → Result Target TargetFault → (List ℕ → List ℕ → List ℕ) → Exchange → (List ℕ → Type 0)
-    → Option CallFault → List GoneOut → List GoneOut → Type 0
-SendsBy outgoing left vain was offered (Ok target) request limits hears why old new =
-    Sends outgoing left vain was offered (λ t. t ≡ target) request limits hears why old new
-SendsBy outgoing left vain was offered (Err none) request limits hears why old new =
-    (why ≡ Some (fault_by none)) × (new ≡ old)
-
 -- the fault of an exchange that was lost says what came
 abbrev pub IsLostBy : Answer → ℕ → List ℕ → CallFault → Type 0
 IsLostBy heard most bytes (fault.Lost why) =
     IsLost (λ ended came judged. JudgedIs ended came heard judged) most bytes why
 IsLostBy heard most bytes why = Unit {0}
 
--- the last look and the last call of the exchange that went out last, by why it was lost, none where it wasn't
-abbrev pub IsTimedBy : ℕ → Option Look → Option Lost → List GoneOut → Type 0
-IsTimedBy most look why [] = ⊥
-IsTimedBy most look why (gone ∷ before) = IsTimed most look gone.allowed why
+-- the last look and the last call of the exchange that went out last, under its limits, by what the watch showed at its
+-- beginning and at that look, and by why it was lost, none where it wasn't
+abbrev pub IsTimedBy : ℕ → Option ℕ → Option ℕ → Option Lost → List GoneOut → Type 0
+IsTimedBy most shows shown why [] = ⊥
+IsTimedBy most shows shown why (gone ∷ before) = IsTimed most (last_look gone.limits shows shown) gone.allowed why
 
--- The last read of an answer was allowed to wait just as long as the last look says; where the exchange was lost, that
--- says what its last call was allowed, or that the time was over; and for another cause there was no exchange.
-abbrev pub IsInLimits : ℕ → Option Look → Option CallFault → List GoneOut → Type 0
-IsInLimits most look None sent = IsTimedBy most look None sent
-IsInLimits most look (Some (fault.Lost why)) sent = IsTimedBy most look (Some why) sent
-IsInLimits most look (Some why) sent = Unit {0}
+-- Of a call for which something went out: the last read of an answer was allowed to wait just as long as the last look
+-- says; and where the exchange was lost, that says what its last call was allowed, or that the time was over.
+abbrev pub IsInLimits : ℕ → Option ℕ → Option ℕ → Option CallFault → List GoneOut → Type 0
+IsInLimits most shows shown None sent = IsTimedBy most shows shown None sent
+IsInLimits most shows shown (Some (fault.Lost why)) sent = IsTimedBy most shows shown (Some why) sent
+IsInLimits most shows shown (Some why) sent = Unit {0}
+
+-- An answer is heard of an exchange of this request that was kept, and is no longer; the others are. Where that one went
+-- on, the answer was heard from its connection, on which the request had gone out once.
+pub record TakesFrom {C : Type 0} (outgoing : C → List ℕ) (incoming : C → Incoming) (leads : Target → Type 0)
+    (request : List ℕ → List ℕ → List ℕ) (hears : List ℕ → Type 0) (old new : List (Kept C)) : Type 0 where
+  pub target : Target
+  pub kept : Kept C
+  pub leads_to : leads target
+  pub taken : IsTakenAt (string_bytes target.address) (request target.host target.path) old new kept
+  pub read : (goes : KeptGoesOn outgoing incoming kept) → hears (incoming goes.began).left
+
+-- an exchange of this request is kept
+pub record IsAwaited {C : Type 0} (leads : Target → Type 0) (request : List ℕ → List ℕ → List ℕ) (old : List (Kept C))
+    : Type 0 where
+  pub target : Target
+  pub kept : Kept C
+  pub rest : List (Kept C)
+  pub leads_to : leads target
+  pub taken : IsTakenAt (string_bytes target.address) (request target.host target.path) old rest kept
+
+-- What a call for which nothing goes out comes to: an answer is taken of an exchange that was kept, or such an exchange
+-- has none yet.
+abbrev pub Awaits : {C : Type 0} → (C → List ℕ) → (C → Incoming) → (Target → Type 0) → (List ℕ → List ℕ → List ℕ)
+    → (List ℕ → Type 0) → Option CallFault → List (Kept C) → List (Kept C) → Type 0
+Awaits outgoing incoming leads request hears None old new = TakesFrom outgoing incoming leads request hears old new
+Awaits outgoing incoming leads request hears (Some (fault.Lost why)) old new = IsAwaited leads request old
+Awaits outgoing incoming leads request hears (Some why) old new = ⊥
+
+-- What goes out for a call on a peer of which these exchanges were kept: the request, by what `Sends` says, under limits for
+-- which nobody waits where an answer of its address is awaited already; or nothing, and an answer is taken of an exchange
+-- that was kept, or awaited still.
+abbrev pub Calls : {C : Type 0} → (C → List ℕ) → (C → Incoming) → (C → Vain) → Option (Opened C) → (List ℕ → Option C)
+    → (Target → Type 0) → (List ℕ → List ℕ → List ℕ) → Exchange → (List ℕ → Type 0) → Option CallFault
+    → List (Kept C) → List (Kept C) → List GoneOut → List GoneOut → Type 0
+Calls outgoing incoming vain was offered leads request limits hears why kept kept_new old new =
+    Sends outgoing (λ c. (incoming c).left) vain was offered leads request (limits_by kept limits) hears why old new
+    ⊎ ((new ≡ old) × Awaits outgoing incoming leads request hears why kept kept_new)
+
+-- the same of a call to this target, or to none
+abbrev pub CallsBy : {C : Type 0} → (C → List ℕ) → (C → Incoming) → (C → Vain) → Option (Opened C) → (List ℕ → Option C)
+    → Result Target TargetFault → (List ℕ → List ℕ → List ℕ) → Exchange → (List ℕ → Type 0) → Option CallFault
+    → List (Kept C) → List (Kept C) → List GoneOut → List GoneOut → Type 0
+CallsBy outgoing incoming vain was offered (Ok target) request limits hears why kept kept_new old new =
+    Calls outgoing incoming vain was offered (λ t. t ≡ target) request limits hears why kept kept_new old new
+CallsBy outgoing incoming vain was offered (Err none) request limits hears why kept kept_new old new =
+    (why ≡ Some (fault_by none)) × (new ≡ old)

@@ -1,14 +1,14 @@
 //! A courier that posts over HTTP.
-ghost use Rattle.std.specs.Prelude.{◌≡◌, ℕ, [], codes, false, true, IfOk, IfSome, IsTrue, None, if◌then◌else◌};
+ghost use Rattle.std.specs.Prelude.{◌≡◌, ◌⊎◌, All, ℕ, [], codes, false, true, IfOk, IfSome, IsTrue, None, if◌then◌else◌};
 ghost use Rattle.std.specs.Option.{is_none};
 ghost use Rattle.http_client.specs.Requests.{request};
 ghost use Rattle.net_calls.specs.Network.{offer_of};
-ghost use Rattle.peer_exchange.specs.Exchanges.{last_look};
 ghost use Rattle.site_traits.specs.Counts.{one_more};
 ghost use Rattle.site_traits.specs.Peers.{Posts, PostCause};
+ghost use Rattle.http_peers.specs.Kept.{KeptGoesOn};
 ghost use Rattle.http_peers.specs.Peers.{counted, IsWholeAnswer};
 ghost use Rattle.http_peers.specs.Sent.{IsConnected, IsHeardFrom, IsInLimits, IsLostBy, IsOpenFor, IsWhyUnsent};
-ghost use Rattle.http_peers.specs.Sent.{Sends, was_posted};
+ghost use Rattle.http_peers.specs.Sent.{Calls, was_posted};
 ghost use Rattle.http_peers.specs.Targets.{Finds, IsCallbackTarget};
 
 use crate::faults::CallFault;
@@ -39,6 +39,7 @@ impl<'a, N: HostNet + Drop, T: Stopwatch + Drop> RealCourier<'a, N, T> {
     ) -> Result<RealCourier<'a, N, T>, AllocError>
         ensures uncalled { IfOk result (λ c. (c.peer.calls ≡ 0) × (c.peer.faults ≡ 0) × (c.peer.fault ≡ None)) }
         ensures nothing { IfOk result (λ c. (c.peer.caller.opened ≡ None) × (c.peer.caller.log.sent ≡ [])) }
+        ensures none_kept { IfOk result (λ c. c.peer.caller.kept.items ≡ []) }
         ensures over { IfOk result (λ c. (c.peer.caller.net ≡ net) × (c.peer.caller.watch ≡ watch)) }
     {
         let peer = HttpPeer::made(alloc, net, watch, pulse)?;
@@ -103,17 +104,21 @@ impl<'a, N: HostNet + Drop, T: Stopwatch + Drop> Courier for RealCourier<'a, N, 
             → IsWholeAnswer self.new.peer.caller.room.bytes.items self.new.peer.caller.reply.heard
             × (self.new.peer.caller.reply.heard.status ≡ status) }
         ensures fault { was_posted result ≡ is_none self.new.peer.fault }
-        ensures sends { N.tells → N.Connection.tells → Sends N.Connection.outgoing
-            (λ c. (N.Connection.incoming c).left) N.Connection.vain
+        ensures sends { N.tells → N.Connection.tells → Calls N.Connection.outgoing N.Connection.incoming N.Connection.vain
             self.old.peer.caller.opened (λ a. offer_of (N.peers self.old.peer.caller.net a))
             (IsCallbackTarget uri.now) (λ host path. request (codes "POST") host path body.now) POST
             (IsHeardFrom self.new.peer.caller.room.bytes.items self.new.peer.caller.reply.heard)
-            self.new.peer.fault self.old.peer.caller.log.sent self.new.peer.caller.log.sent }
+            self.new.peer.fault self.old.peer.caller.kept.items self.new.peer.caller.kept.items
+            self.old.peer.caller.log.sent self.new.peer.caller.log.sent }
+        ensures own { N.Connection.tells → All (KeptGoesOn N.Connection.outgoing N.Connection.incoming)
+            self.old.peer.caller.kept.items
+            → All (KeptGoesOn N.Connection.outgoing N.Connection.incoming) self.new.peer.caller.kept.items }
         ensures lost { IfSome self.new.peer.fault (IsLostBy self.new.peer.caller.reply.heard
             self.new.peer.caller.room.most self.new.peer.caller.room.bytes.items) }
-        ensures in_limits { N.Connection.tells → T.tells → IsInLimits self.new.peer.caller.room.most
-            (last_look POST (T.shows self.old.peer.caller.watch) (T.shown self.new.peer.caller.watch))
-            self.new.peer.fault self.new.peer.caller.log.sent }
+        ensures in_limits { N.Connection.tells → T.tells
+            → (self.new.peer.caller.log.sent ≡ self.old.peer.caller.log.sent)
+            ⊎ IsInLimits self.new.peer.caller.room.most (T.shows self.old.peer.caller.watch)
+            (T.shown self.new.peer.caller.watch) self.new.peer.fault self.new.peer.caller.log.sent }
         ensures closed { self.new.peer.caller.opened ≡ None }
         ensures cause { PostCause result (counted self.old.peer.calls self.old.peer.faults)
             (counted self.new.peer.calls self.new.peer.faults) }

@@ -1,16 +1,16 @@
 //! An orchestrator that is asked over HTTP.
-ghost use Rattle.std.specs.Prelude.{◌≡◌, [], codes, false, IfOk, IfSome, IsErrOf, IsSomeAnd, IsTrue, None, OnErr};
+ghost use Rattle.std.specs.Prelude.{◌≡◌, ◌⊎◌, All, [], codes, false, IfOk, IfSome, IsErrOf, IsSomeAnd, IsTrue, None, OnErr};
 ghost use Rattle.std.specs.Option.{is_none};
 ghost use Rattle.std.specs.Prelude.{OnOk, Some, option_copied, if◌then◌else◌};
 ghost use Rattle.http_client.specs.Requests.{request};
 ghost use Rattle.net_calls.specs.Network.{offer_of};
 ghost use Rattle.url.specs.Parts.{Parts};
-ghost use Rattle.peer_exchange.specs.Exchanges.{last_look};
 ghost use Rattle.site_traits.specs.Counts.{one_more};
 ghost use Rattle.site_traits.specs.Peers.{Asks, Polls, CallCause};
+ghost use Rattle.http_peers.specs.Kept.{KeptGoesOn};
 ghost use Rattle.http_peers.specs.Peers.{counted, silent, IsWholeAnswer};
 ghost use Rattle.http_peers.specs.Sent.{IsConnected, IsHeardFrom, IsInLimits, IsLostBy, IsOpenFor, IsWhyUnsent};
-ghost use Rattle.http_peers.specs.Sent.{Sends, has_come};
+ghost use Rattle.http_peers.specs.Sent.{Calls, has_come};
 ghost use Rattle.http_peers.specs.Targets.{AreGrantsOf, CanBeAskedAt, Finds, IsGrantTarget, IsLocatedTarget};
 
 use crate::faults::CallFault;
@@ -50,6 +50,7 @@ impl<'a, N: HostNet + Drop, T: Stopwatch + Drop> RealOrchestrator<'a, N, T> {
         ensures nowhere { IfOk result (λ o. o.at ≡ None) }
         ensures uncalled { IfOk result (λ o. (o.peer.calls ≡ 0) × (o.peer.faults ≡ 0) × (o.peer.fault ≡ None)) }
         ensures nothing { IfOk result (λ o. (o.peer.caller.opened ≡ None) × (o.peer.caller.log.sent ≡ [])) }
+        ensures none_kept { IfOk result (λ o. o.peer.caller.kept.items ≡ []) }
         ensures over { IfOk result (λ o. (o.peer.caller.net ≡ net) × (o.peer.caller.watch ≡ watch)) }
     {
         let peer = HttpPeer::made(alloc, net, watch, pulse)?;
@@ -205,17 +206,21 @@ impl<'a, N: HostNet + Drop, T: Stopwatch + Drop> Orchestrator for RealOrchestrat
             → IsWholeAnswer self.new.peer.caller.room.bytes.items heard.new }
         ensures kept { result ≡ Call.Failed → heard.new ≡ heard.old }
         ensures fault { has_come result ≡ is_none self.new.peer.fault }
-        ensures sends { N.tells → N.Connection.tells → Sends N.Connection.outgoing
-            (λ c. (N.Connection.incoming c).left) N.Connection.vain
+        ensures sends { N.tells → N.Connection.tells → Calls N.Connection.outgoing N.Connection.incoming N.Connection.vain
             self.old.peer.caller.opened (λ a. offer_of (N.peers self.old.peer.caller.net a))
             (IsGrantTarget self.old.at None) (λ host path. request (codes "POST") host path body.now)
             ORCHESTRATOR (IsHeardFrom self.new.peer.caller.room.bytes.items heard.new) self.new.peer.fault
+            self.old.peer.caller.kept.items self.new.peer.caller.kept.items
             self.old.peer.caller.log.sent self.new.peer.caller.log.sent }
+        ensures own { N.Connection.tells → All (KeptGoesOn N.Connection.outgoing N.Connection.incoming)
+            self.old.peer.caller.kept.items
+            → All (KeptGoesOn N.Connection.outgoing N.Connection.incoming) self.new.peer.caller.kept.items }
         ensures lost { IfSome self.new.peer.fault (IsLostBy self.new.peer.caller.reply.heard
             self.new.peer.caller.room.most self.new.peer.caller.room.bytes.items) }
-        ensures in_limits { N.Connection.tells → T.tells → IsInLimits self.new.peer.caller.room.most
-            (last_look ORCHESTRATOR (T.shows self.old.peer.caller.watch) (T.shown self.new.peer.caller.watch))
-            self.new.peer.fault self.new.peer.caller.log.sent }
+        ensures in_limits { N.Connection.tells → T.tells
+            → (self.new.peer.caller.log.sent ≡ self.old.peer.caller.log.sent)
+            ⊎ IsInLimits self.new.peer.caller.room.most (T.shows self.old.peer.caller.watch)
+            (T.shown self.new.peer.caller.watch) self.new.peer.fault self.new.peer.caller.log.sent }
         ensures closed { self.new.peer.caller.opened ≡ None }
         ensures at { self.new.at ≡ self.old.at }
         ensures cause { CallCause result (counted self.old.peer.calls self.old.peer.faults)
@@ -232,17 +237,21 @@ impl<'a, N: HostNet + Drop, T: Stopwatch + Drop> Orchestrator for RealOrchestrat
             → IsWholeAnswer self.new.peer.caller.room.bytes.items heard.new }
         ensures kept { result ≡ Call.Failed → heard.new ≡ heard.old }
         ensures fault { has_come result ≡ is_none self.new.peer.fault }
-        ensures sends { N.tells → N.Connection.tells → Sends N.Connection.outgoing
-            (λ c. (N.Connection.incoming c).left) N.Connection.vain
+        ensures sends { N.tells → N.Connection.tells → Calls N.Connection.outgoing N.Connection.incoming N.Connection.vain
             self.old.peer.caller.opened (λ a. offer_of (N.peers self.old.peer.caller.net a))
             (IsGrantTarget self.old.at (Some location.now)) (λ host path. request (codes "GET") host path [])
             ORCHESTRATOR (IsHeardFrom self.new.peer.caller.room.bytes.items heard.new) self.new.peer.fault
+            self.old.peer.caller.kept.items self.new.peer.caller.kept.items
             self.old.peer.caller.log.sent self.new.peer.caller.log.sent }
+        ensures own { N.Connection.tells → All (KeptGoesOn N.Connection.outgoing N.Connection.incoming)
+            self.old.peer.caller.kept.items
+            → All (KeptGoesOn N.Connection.outgoing N.Connection.incoming) self.new.peer.caller.kept.items }
         ensures lost { IfSome self.new.peer.fault (IsLostBy self.new.peer.caller.reply.heard
             self.new.peer.caller.room.most self.new.peer.caller.room.bytes.items) }
-        ensures in_limits { N.Connection.tells → T.tells → IsInLimits self.new.peer.caller.room.most
-            (last_look ORCHESTRATOR (T.shows self.old.peer.caller.watch) (T.shown self.new.peer.caller.watch))
-            self.new.peer.fault self.new.peer.caller.log.sent }
+        ensures in_limits { N.Connection.tells → T.tells
+            → (self.new.peer.caller.log.sent ≡ self.old.peer.caller.log.sent)
+            ⊎ IsInLimits self.new.peer.caller.room.most (T.shows self.old.peer.caller.watch)
+            (T.shown self.new.peer.caller.watch) self.new.peer.fault self.new.peer.caller.log.sent }
         ensures closed { self.new.peer.caller.opened ≡ None }
         ensures at { self.new.at ≡ self.old.at }
         ensures cause { CallCause result (counted self.old.peer.calls self.old.peer.faults)

@@ -1,14 +1,14 @@
 //! A peer over HTTP: its calls, counted, and why the last one has no answer.
-ghost use Rattle.std.specs.Prelude.{◌≡◌, ◌<◌, ◌^◌, [], None, IfOk, IfSome, IsTrue, false, if◌then◌else◌};
+ghost use Rattle.std.specs.Prelude.{◌≡◌, ◌⊎◌, ◌<◌, ◌^◌, [], All, None, IfOk, IfSome, IsTrue, false, if◌then◌else◌};
 ghost use Rattle.std.specs.Option.{is_none};
 ghost use Rattle.std.specs.Result.{is_ok, result_err};
 ghost use Rattle.http_client.specs.Requests.{request};
 ghost use Rattle.net_calls.specs.Network.{offer_of};
 ghost use Rattle.site_traits.specs.Counts.{one_more};
-ghost use Rattle.peer_exchange.specs.Exchanges.{last_look};
+ghost use Rattle.http_peers.specs.Kept.{KeptGoesOn};
 ghost use Rattle.http_peers.specs.Peers.{IsWholeAnswer};
 ghost use Rattle.http_peers.specs.Sent.{IsConnected, IsHeardFrom, IsInLimits, IsLostBy, IsOpenAt, IsWhyUnopenedAt};
-ghost use Rattle.http_peers.specs.Sent.{SendsBy};
+ghost use Rattle.http_peers.specs.Sent.{CallsBy};
 
 use crate::caller::HttpCaller;
 use crate::counted::count_one;
@@ -45,6 +45,7 @@ impl<'a, N: HostNet + Drop, T: Stopwatch + Drop> HttpPeer<'a, N, T> {
     ) -> Result<HttpPeer<'a, N, T>, AllocError>
         ensures uncalled { IfOk result (λ p. (p.calls ≡ 0) × (p.faults ≡ 0) × (p.fault ≡ None)) }
         ensures nothing { IfOk result (λ p. (p.caller.opened ≡ None) × (p.caller.log.sent ≡ [])) }
+        ensures none_kept { IfOk result (λ p. p.caller.kept.items ≡ []) }
         ensures over { IfOk result (λ p. (p.caller.net ≡ net) × (p.caller.watch ≡ watch)) }
     {
         let caller = HttpCaller::new(alloc, net, watch)?;
@@ -70,7 +71,8 @@ impl<'a, N: HostNet + Drop, T: Stopwatch + Drop> HttpPeer<'a, N, T> {
             (λ a. offer_of (N.peers self.old.caller.net a))) }
         ensures why { N.tells → IfSome self.new.fault (IsWhyUnopenedAt self.old.caller.opened
             (λ a. offer_of (N.peers self.old.caller.net a)) target) }
-        ensures rest { (self.new.caller.log ≡ self.old.caller.log) × (self.new.caller.watch ≡ self.old.caller.watch) }
+        ensures rest { (self.new.caller.log ≡ self.old.caller.log) × (self.new.caller.watch ≡ self.old.caller.watch)
+            × (self.new.caller.kept ≡ self.old.caller.kept) }
     {
         let done = match target {
             Ok(target) => self.caller.connect(self.alloc, &target.address),
@@ -82,8 +84,7 @@ impl<'a, N: HostNet + Drop, T: Stopwatch + Drop> HttpPeer<'a, N, T> {
         self.note(done)
     }
 
-    /// Sends a request of this body to this target, once and within these limits, and hears the answer. Whether one
-    /// came: where not, one fault is counted, and why it is stays told. No connection is open then.
+    /// Hears the answer to a request of this body to this target, as `HttpCaller::call` does. Whether one came: where not, one fault is counted, and why it is stays told. No connection is open then.
     pub fn request(
         &mut self,
         method: &Method,
@@ -97,17 +98,19 @@ impl<'a, N: HostNet + Drop, T: Stopwatch + Drop> HttpPeer<'a, N, T> {
         ensures fault { result ≡ is_none self.new.fault }
         ensures heard { IsTrue result
             → IsWholeAnswer self.new.caller.room.bytes.items self.new.caller.reply.heard }
-        ensures sends { N.tells → N.Connection.tells → SendsBy N.Connection.outgoing
-            (λ c. (N.Connection.incoming c).left) N.Connection.vain self.old.caller.opened
-            (λ a. offer_of (N.peers self.old.caller.net a)) target
+        ensures sends { N.tells → N.Connection.tells → CallsBy N.Connection.outgoing N.Connection.incoming
+            N.Connection.vain self.old.caller.opened (λ a. offer_of (N.peers self.old.caller.net a)) target
             (λ host path. request method.now host path body.now) limits
             (IsHeardFrom self.new.caller.room.bytes.items self.new.caller.reply.heard) self.new.fault
-            self.old.caller.log.sent self.new.caller.log.sent }
+            self.old.caller.kept.items self.new.caller.kept.items self.old.caller.log.sent self.new.caller.log.sent }
+        ensures own { N.Connection.tells → All (KeptGoesOn N.Connection.outgoing N.Connection.incoming)
+            self.old.caller.kept.items
+            → All (KeptGoesOn N.Connection.outgoing N.Connection.incoming) self.new.caller.kept.items }
         ensures lost { IfSome self.new.fault (IsLostBy self.new.caller.reply.heard self.new.caller.room.most
             self.new.caller.room.bytes.items) }
-        ensures in_limits { N.Connection.tells → T.tells → IsInLimits self.new.caller.room.most
-            (last_look limits (T.shows self.old.caller.watch) (T.shown self.new.caller.watch)) self.new.fault
-            self.new.caller.log.sent }
+        ensures in_limits { N.Connection.tells → T.tells → (self.new.caller.log.sent ≡ self.old.caller.log.sent)
+            ⊎ IsInLimits self.new.caller.room.most (T.shows self.old.caller.watch) (T.shown self.new.caller.watch)
+            self.new.fault self.new.caller.log.sent }
         ensures closed { self.new.caller.opened ≡ None }
     {
         count_one(&mut self.calls);

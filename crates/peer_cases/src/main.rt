@@ -17,6 +17,7 @@ fn main(rt: HostRuntime) -> Result<()> {
     peers::ask_orchestrators(&rt)?;
     peers::connect_orchestrators(&rt)?;
     peers::post_notices(&rt)?;
+    peers::keep_answers(&rt)?;
     peers::connect_couriers(&rt)?;
     peers::call_infrastructures(&rt)?;
     peers::lose_infrastructures(&rt)

@@ -209,6 +209,39 @@ pub fn post_notices(rt: &(impl Print + AllocGlobal)) -> Result<()> {
     Ok(())
 }
 
+/// Posts notices to a receiver that answers late: an exchange that met silence is kept, its answer is taken by the next
+/// call of the same request alone, once, and behind three looks in vain another exchange is begun.
+pub fn keep_answers(rt: &(impl Print + AllocGlobal)) -> Result<()> {
+    let alloc = rt.alloc();
+    let had = Cell::new(0);
+    let pulse = Cell::new(NOTHING);
+    let texts: [&[&str]; 5] = [
+        &["HTTP/1.1 204 No Content\r\n\r\n"],
+        &["", "", "", "", ""],
+        &["HTTP/1.1 204 No Content\r\n\r\n"],
+        &["HTTP/1.1 500 Oh\r\nContent-Length: 0\r\n\r\n"],
+        &["", "", "HTTP/1.1 204 No Content\r\n\r\n"],
+    ];
+    let net = net_of(alloc, &texts, &had)?;
+    let mut courier = RealCourier::made(alloc, net, StepWatch::of(0, 1), &pulse)?;
+    println!(rt; "late by two silences, with another notice between")?;
+    post(rt, &mut courier, "http://127.0.0.1:9900/n")?;
+    post(rt, &mut courier, "http://127.0.0.1:9900/m")?;
+    post(rt, &mut courier, "http://127.0.0.1:9900/n")?;
+    post(rt, &mut courier, "http://127.0.0.1:9900/n")?;
+    println!(rt; "had {}", had.get())?;
+    post(rt, &mut courier, "http://127.0.0.1:9900/n")?;
+    println!(rt; "had {}; never", had.get())?;
+    post(rt, &mut courier, "http://127.0.0.1:9900/n")?;
+    post(rt, &mut courier, "http://127.0.0.1:9900/n")?;
+    post(rt, &mut courier, "http://127.0.0.1:9900/n")?;
+    post(rt, &mut courier, "http://127.0.0.1:9900/n")?;
+    println!(rt; "had {}", had.get())?;
+    post(rt, &mut courier, "http://127.0.0.1:9900/n")?;
+    println!(rt; "had {}", had.get())?;
+    Ok(())
+}
+
 /// Connects to this callback, and prints what came of it.
 fn connect_to<'a>(
     rt: &(impl Print + AllocGlobal),

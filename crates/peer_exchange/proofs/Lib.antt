@@ -1,3 +1,4 @@
+pub mod GoingLaws
 pub mod LostLaws
 pub mod PieceLaws
 pub mod SentLaws

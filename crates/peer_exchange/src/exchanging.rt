@@ -2,7 +2,7 @@
 ghost use Rattle.std.specs.Prelude.{◌≡◌, ◌⊎◌, ◌≤◌, ◌<◌, ◌^◌, ◌≢◌, [], IfOk, IfErr, Some, length, vec_len};
 ghost use Rattle.std.specs.Result.{result_err};
 ghost use Rattle.host_calls.specs.Streams.{Takes};
-ghost use Rattle.peer_exchange.specs.Exchanges.{Counts, EndsInTime, GivesAt, IsLost, IsReplied, IsSent, IsTimed};
+ghost use Rattle.peer_exchange.specs.Exchanges.{Counts, EndsInTime, GivesAt, HasRead, IsLost, IsReplied, IsSent, IsTimed};
 ghost use Rattle.peer_exchange.specs.Exchanges.{Receives, last_look, look_at};
 
 use crate::looking::look_now;
@@ -49,7 +49,7 @@ pub struct Spent {
 #[derive(Drop)]
 pub struct Room {
     pub bytes: Vec<u8>,
-    piece: Vec<u8>,
+    pub(crate) piece: Vec<u8>,
     /// Bytes of the longest reply.
     pub most: usize,
     ghost some: { 1 ≤ vec_len piece },
@@ -77,7 +77,7 @@ impl Room {
 /// left. One that a signal interrupts is made again.
 ///
 /// Condition: nothing was judged of a reply before.
-/// Where it failed, the connection is of no use: a reply may still come on it.
+/// Where it failed, a reply may still come on the connection: no other request may be sent on it.
 pub fn exchange<R: Reply, C: Connection, T: Stopwatch>(
     connection: &mut C,
     watch: &mut T,
@@ -98,6 +98,8 @@ pub fn exchange<R: Reply, C: Connection, T: Stopwatch>(
     ensures counts { C.tells → Counts (result_err result) (C.vain connection.old) (C.vain connection.new) }
     ensures began { T.tells → IfOk result (λ spent. T.shows watch.old ≡ Some spent.began) }
     ensures lost { IfErr result (IsLost (R.is reply.new) room.new.most room.new.bytes.items) }
+    ensures unread { C.tells → result_err result ≡ Some Lost.Unread → HasRead room.new.bytes.items
+        (C.incoming connection.old) (C.incoming connection.new) }
     ensures room { room.new.most ≡ room.old.most }
 {
     room.bytes.clear();
@@ -191,6 +193,8 @@ fn receive<R: Reply, C: Connection, T: Stopwatch>(
     ensures counts { C.tells → Counts (result_err result) (C.vain connection.old) (C.vain connection.new) }
     ensures receives { Receives (R.is reply.new) C.tells room.new.most limits began room.new.bytes.items
         (C.incoming connection.old) (C.incoming connection.new) result }
+    ensures unread { C.tells → result_err result ≡ Some Lost.Unread → HasRead room.new.bytes.items
+        (C.incoming connection.old) (C.incoming connection.new) }
     ensures room { room.new.most ≡ room.old.most }
     ensures why { IfErr result (λ lost. lost ≢ Lost.Unsent) }
 {

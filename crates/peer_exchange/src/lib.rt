@@ -3,11 +3,13 @@
 #![tactic(auto)]
 
 mod exchanging;
+mod going_on;
 mod looking;
 mod noted;
 mod replies;
 
 pub use exchanging::{Lost, Room, Spent, exchange};
+pub use going_on::{Progress, go_on};
 pub use looking::{Look, look_now};
 pub use noted::{note_asked, note_failed};
 pub use replies::{Judged, Reply};

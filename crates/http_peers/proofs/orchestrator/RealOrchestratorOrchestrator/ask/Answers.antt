@@ -7,17 +7,18 @@ use Rattle.net_calls.specs.Network.{offer_of}
 use Rattle.edge_limits.specs.declared.limits.TheConstants.{ORCHESTRATOR}
 use Rattle.http_peers.specs.Sent.{IsHeardFrom}
 use Rattle.http_peers.specs.Targets.{IsGrantTarget}
-use Rattle.http_peers.proofs.SentLemmas.{sends_for}
+use Rattle.http_peers.proofs.SentLemmas.{calls_for}
 use Rattle.http_peers.proofs.orchestrator.RealOrchestratorOrchestrator.ask.Goals as goal
 
 pub returns-clause-sends : goal.returns-clause-sends
 returns-clause-sends g c = λ tells told.
-    sends_for g.N.Connection.Connection.outgoing (λ x. (g.N.Connection.Connection.incoming x).left) g.N.Connection.Connection.vain
+    calls_for g.N.Connection.Connection.outgoing g.N.Connection.Connection.incoming g.N.Connection.Connection.vain
     c.args.self.now.peer.caller.opened (λ a. offer_of (g.N.HostNet.peers c.args.self.now.peer.caller.net a))
     (IsGrantTarget c.args.self.now.at None) (λ host path. request (codes "POST") host path c.args.body.now) ORCHESTRATOR
     (IsHeardFrom c.request-came.new.self.caller.room.bytes.items c.answer.new.heard)
     (IsHeardFrom c.request-came.new.self.caller.room.bytes.items c.request-came.new.self.caller.reply.heard)
     c.target_at-target.result c.request-came.new.self.fault
+    c.args.self.now.peer.caller.kept.items c.request-came.new.self.caller.kept.items
     c.args.self.now.peer.caller.log.sent c.request-came.new.self.caller.log.sent c.target_at-target.ensures
     (λ none bytes. subst (λ heard. IsHeardFrom c.request-came.new.self.caller.room.bytes.items heard bytes)
     (sym (c.answer.ensures.came (c.request-came.ensures.fault ∙ ap is_none none))))
