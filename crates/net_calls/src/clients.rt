@@ -134,7 +134,8 @@ fn mark_all<C: Drop>(lines: &mut [Option<Line<C>>]) {
     }
 }
 
-impl<'a, R: Net<Listener = TcpListener, Stream = TcpStream>, T: Drop> ClientNet for StdNet<'a, R, T> {
+impl<'a, R: Net<Listener = TcpListener, Stream = TcpStream>, T: Drop> ClientNet
+    for StdNet<'a, R, T> {
     type Listener = TcpListener;
 
     type Client = TcpStream;
@@ -181,7 +182,9 @@ impl<'a, R: Net<Listener = TcpListener, Stream = TcpStream>, T: Drop> ClientNet 
                 if told > 0 {
                     mark(lines, &all);
                 }
-                told >= 0 || io::Error::from_raw_os_error(os::errno()).kind() == io::ErrorKind::Interrupted
+                told >= 0
+                    || io::Error::from_raw_os_error(os::errno()).kind()
+                        == io::ErrorKind::Interrupted
             }
             Err(AllocError) => {
                 let _ = poll(&mut [], limit);

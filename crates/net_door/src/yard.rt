@@ -179,7 +179,11 @@ impl<N: ClientNet + Drop, T: Stopwatch + Drop> Yard<N, T> {
     /// nothing is under way for it.
     pub fn hurry(&mut self) {
         let now = self.now();
-        let wait = if self.paused && !self.accepted { APART } else { 0 };
+        let wait = if self.paused && !self.accepted {
+            APART
+        } else {
+            0
+        };
         self.due = self.due.min(now.saturating_add(wait));
     }
 

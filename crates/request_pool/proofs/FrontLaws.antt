@@ -174,9 +174,9 @@ opened_whole bytes head p w over =
     let new : List ℕ = head ++ drop (length head) bytes in
     let has = head_grows head (drop (length head) bytes) (open_parts p.head) over.head in
     let behind : drop p.head.len new ≡ drop p.head.len bytes =
-        drop-append-drop (length head) bytes head p.head.len (omega (arith, long)) refl in
+    drop-append-drop (length head) bytes head p.head.len (omega (arith, long)) refl in
     let last : drop p.len new ≡ drop p.len bytes =
-        drop-append-drop (length head) bytes head p.len (omega (arith, long, w.behind)) refl in
+    drop-append-drop (length head) bytes head p.len (omega (arith, long, w.behind)) refl in
     whole_of new (open_parts p.head) w.message.body p.len has
     (subst (λ (x : List ℕ). HasBody (frame_as p.head.body) (drop p.head.len new) w.message.body x) (sym last)
     (subst (λ (x : List ℕ). HasBody (frame_as p.head.body) x w.message.body (drop p.len bytes)) (sym behind) w.body))
@@ -235,7 +235,7 @@ opened_as p v s new head vs is known over held begins role out requests closing 
     let w : IsWholeAt s.held p = whole_known p s is (subst (λ (x : ClientState). KnowsFront x.held x.front) vs known) in
     let o = is_opened p s head w over in
     let same : new.held ≡ head ++ drop (length head) s.held =
-        held ∙ ap (λ (x : ClientState). head ++ drop (length head) x.held) vs in record {
+    held ∙ ap (λ (x : ClientState). head ++ drop (length head) x.held) vs in record {
       as_long = ap length same ∙ o.as_long;
       behind = ap (drop p.head.len) same ∙ o.behind;
       begins = begins;

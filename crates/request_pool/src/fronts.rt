@@ -83,11 +83,7 @@ impl FrontReader {
 }
 
 /// What the bytes begin with, whose head is this.
-fn read_body(
-    decoder: &mut Decoder,
-    bytes: &[u8],
-    head: HeadParts,
-) -> Result<Front, AllocError>
+fn read_body(decoder: &mut Decoder, bytes: &[u8], head: HeadParts) -> Result<Front, AllocError>
     requires head { HasHead bytes.now head }
     requires decoded { HasDecoded (window bytes.now head) decoder.old }
     ensures kept { HasDecoded (window bytes.now head) decoder.new }
@@ -107,7 +103,10 @@ fn whole_at(bytes: &[u8], head: HeadParts) -> Front
     ensures { FrontIs bytes.now result }
 {
     let _ = bytes;
-    Front::Whole(Place { len: head.len, head })
+    Front::Whole(Place {
+        len: head.len,
+        head,
+    })
 }
 
 /// What the bytes begin with, whose head announces a body of this length.
@@ -124,11 +123,7 @@ fn read_sized(bytes: &[u8], head: HeadParts, length: usize) -> Front
 }
 
 /// What the bytes begin with, whose head announces a chunked body.
-fn read_chunked(
-    decoder: &mut Decoder,
-    bytes: &[u8],
-    head: HeadParts,
-) -> Result<Front, AllocError>
+fn read_chunked(decoder: &mut Decoder, bytes: &[u8], head: HeadParts) -> Result<Front, AllocError>
     requires head { HasHead bytes.now head }
     requires chunked { head.body ≡ bodies.Chunked }
     requires decoded { HasDecoded (window bytes.now head) decoder.old }

@@ -81,12 +81,7 @@ fn put_at(over: &mut [u8], at: usize, bytes: &[u8]) {
 
 /// Whether these bytes are a head with these parts, but that it doesn't ask for the end of the connection, and each
 /// part is what it was.
-fn is_same_but_open(
-    head: &[u8],
-    parts: HeadParts,
-    over: &[u8],
-    room: &mut [HeaderSpan],
-) -> bool
+fn is_same_but_open(head: &[u8], parts: HeadParts, over: &[u8], room: &mut [HeaderSpan]) -> bool
     requires { FIELD_ROOM ≤ length room.old }
     ensures { IsTrue result → SaysNoClose head.now parts over.now }
 {

@@ -72,8 +72,15 @@ impl Hand {
     /// whether nothing else is fed behind it.
     pub fn begun(slot: usize, client: Client, len: usize, closes: bool, lone: bool) -> Hand
         requires { len ≤ length client.held }
-        ensures { result ≡ record { slot = slot; client = client; len = len; given = 0; closes = closes; lone = lone;
-            answer = Answering.Awaited } }
+        ensures { result ≡ record {
+          slot = slot;
+          client = client;
+          len = len;
+          given = 0;
+          closes = closes;
+          lone = lone;
+          answer = Answering.Awaited;
+        } }
     {
         Hand {
             slot,
@@ -210,8 +217,10 @@ fn tell(
 /// These bytes are to go out to this client, and the line among them, at this place.
 fn tell_with_line(client: &mut Client, bytes: &[u8], at: usize) -> Result<(), AllocError>
     requires { at ≤ length bytes.now }
-    ensures told { OnOk result (client.new ≡ record client.old { out = client.old.out
-        ++ (take at bytes.now ++ close_line ++ drop at bytes.now) }) }
+    ensures told { OnOk result (client.new ≡ record client.old {
+      out = client.old.out
+          ++ (take at bytes.now ++ close_line ++ drop at bytes.now);
+    }) }
     ensures kept { client.new.held ≡ client.old.held }
 {
     client.put(&bytes[..at])?;

@@ -209,7 +209,14 @@ impl Pool {
             put_at(&mut self.clients, slot, client);
             return false;
         }
-        self.hand = Some(in_hand(self.alloc, slot, client, near_full, &mut self.over, &mut self.room));
+        self.hand = Some(in_hand(
+            self.alloc,
+            slot,
+            client,
+            near_full,
+            &mut self.over,
+            &mut self.room,
+        ));
         true
     }
 
@@ -402,7 +409,9 @@ fn in_hand(
     ensures { TakesInHand slot client result }
 {
     match client.front() {
-        Some(Front::Whole(place)) => whole_in_hand(alloc, slot, client, place, near_full, over, room),
+        Some(Front::Whole(place)) => whole_in_hand(
+            alloc, slot, client, place, near_full, over, room,
+        ),
         _ => {
             let len = client.held().len();
             Hand::begun(slot, client, len, true, true)

@@ -126,12 +126,7 @@ fn orchestrator_at<'a>(
     let mut asked = RealOrchestrator::made(rt.alloc(), net, watch, &shared.pulse)?;
     match asked.to(address) {
         Err(TargetFault::Memory) => Err(AllocError),
-        _ => Ok(WatchedOrchestrator::made(
-            rt.alloc(),
-            asked,
-            &shared.faults,
-            &shared.pace,
-        )),
+        _ => Ok(WatchedOrchestrator::made(rt.alloc(), asked, &shared.faults, &shared.pace)),
     }
 }
 

@@ -11,8 +11,14 @@ invariant_of-self c = (
   c.new.ensures c.write_over.new.self,
   subst (λ (x : Place). IsWholeAt c.write_over.new.self x) (sym c.open_place.ensures)
       (opened_as c.args.place _ c.args.self.now
-      (record { role = c.self.inside.role; held = c.write_over.new.self; front = Some (front.Whole (opened c.args.place));
-        out = c.self.inside.out; requests = c.self.inside.requests; closing = c.self.inside.closing }) c.args.head.now
+      (record {
+        role = c.self.inside.role;
+        held = c.write_over.new.self;
+        front = Some (front.Whole (opened c.args.place));
+        out = c.self.inside.out;
+        requests = c.self.inside.requests;
+        closing = c.self.inside.closing;
+      }) c.args.head.now
       c.self.view_is c.requires.front c.self.invariant.1 c.requires.over c.write_over.ensures refl refl refl refl refl).whole,
 )
 
