@@ -7,10 +7,10 @@ mod words;
 
 use crate::serving::serve_rounds;
 use crate::words::{Asked, read_words, words_of};
-use edge_limits::Pulse;
+use edge_limits::{Pace, Pulse};
 use http_wire::Wire;
 use net_calls::{StdNet, StdStopwatch};
-use net_door::RealDoor;
+use net_door::GatheringDoor;
 use standard_streams::{NullFiles, hold_streams};
 use std::cell::Cell;
 use std::env;
@@ -40,11 +40,13 @@ fn listen_at(rt: &HostRuntime, asked: Asked<'_>) -> u8 {
         return shut(rt);
     };
     let pulse = Cell::new(Pulse::at_start());
-    let made = RealDoor::made(
+    let pace = Cell::new(Pace::at_start());
+    let made = GatheringDoor::made(
         rt.alloc(),
         StdNet::of(rt, &streams),
         StdStopwatch::of(rt),
         &pulse,
+        &pace,
     );
     let Ok(mut door) = made else {
         return starved(rt);

@@ -1,4 +1,5 @@
-//! How long calls on connections may wait, each limit a constant with its reason, and what is left of them at a moment.
+//! How long calls on connections may wait, each limit a constant with its reason, what is left of them at a moment, and
+//! when a round is due.
 #![tactic(auto)]
 
 mod laws;
@@ -8,9 +9,9 @@ mod pulse;
 
 pub use laws::limits_are_these;
 pub use limits::{
-    BUSY, CONNECT, CONNECTION, ENDING, Exchange, INFRASTRUCTURE, LINGER, ORCHESTRATOR, PIECE, POST,
-    SILENCE_BEFORE, SILENCE_WITHIN, STUCK, Stage, TAKEN, WAITING, WHOLE, exchange_limit,
-    lingering_limit, reading_limit, writing_limit,
+    APART, CONNECT, ENDING, Exchange, GATHERED, HELD, INFRASTRUCTURE, KEPT, LATE, LATE_REQUESTS,
+    LINGER, LONG_REQUESTS, LONGEST, ORCHESTRATOR, PIECE, POST, SPENT, STUCK, WAITING, WITHIN,
+    exchange_limit,
 };
-pub use pace::Pace;
-pub use pulse::{FIRST, IDLE, LONGEST, PAUSE, Pulse, pause_of, wait_of};
+pub use pace::{Pace, RESTING};
+pub use pulse::Pulse;

@@ -1,38 +1,50 @@
 //! The limits, in milliseconds, and how long a call may wait under them.
 ghost use Rattle.std.specs.Prelude.{◌≡◌, ◌≤◌, ◌<◌, ◌^◌, IfSome};
-ghost use Rattle.edge_limits.specs.Waits.{between, left, lingering, reading, shorter, writing};
+ghost use Rattle.edge_limits.specs.Waits.{left, shorter};
 
-/// For which a connection may be silent before a request: one idle peer must not hold up turns.
-pub const SILENCE_BEFORE: u64 = 200;
-
-/// For which it may be silent within one. A client that says `Expect: 100-continue` waits 1,000 before it sends its
-/// body.
-pub const SILENCE_WITHIN: u64 = 2_000;
+/// For which a client's connection may be idle between two requests: a proxy keeps its own for 60,000.
+pub const KEPT: u64 = 75_000;
 
 /// In which a request has to be whole: 1 MiB at 1 Mbit/s takes 8,000.
-pub const WHOLE: u64 = 10_000;
+pub const WITHIN: u64 = 30_000;
 
-/// For which a peer may take no byte of a reply.
-pub const STUCK: u64 = 2_000;
+/// For which a client may take no byte of an answer.
+pub const STUCK: u64 = 10_000;
 
-/// In which a reply has to be taken.
-pub const TAKEN: u64 = 30_000;
-
-/// After which a connection ends where it is silent between two requests: else one that polls often would keep every
-/// turn away.
-pub const CONNECTION: u64 = 1_000;
-
-/// After which it ends between two requests, silent or not.
-pub const BUSY: u64 = 5_000;
-
-/// For which what still comes behind the last reply is dropped, so that the peer reads that reply.
+/// For which what still comes behind the last answer is dropped, so that the client reads that answer.
 pub const LINGER: u64 = 500;
 
-/// Connections that have sent nothing yet and wait for their first byte; beyond them the oldest is closed. Each takes a
-/// descriptor, of which a process often has 1,024.
+/// Bytes of a client that are held while its request isn't whole. Longer requests have places of their own.
+pub const HELD: usize = 65_536;
+
+/// Places for requests that are longer than that: each may take some 8 MiB.
+pub const LONG_REQUESTS: usize = 8;
+
+/// Requests that go first where a round is due, so that a round costs a client little.
+pub const LATE_REQUESTS: u32 = 32;
+
+/// For which requests may go first where a round is due.
+pub const LATE: u64 = 5;
+
+/// Requests that are gathered into one connection: less than a connection has, so that the last tells no client to
+/// close.
+pub const GATHERED: u32 = 60_000;
+
+/// Between two gathered connections that end for what can't be fed in them, while a pause runs: each costs a round, and
+/// so a try of what fails.
+pub const APART: u64 = 1_000;
+
+/// For which nobody is let in where there is no descriptor or no memory for one more: the listener has one, so that a
+/// wait there would be none.
+pub const SPENT: u64 = 100;
+
+/// Of the longest wait for clients.
+pub const LONGEST: u64 = 1_000;
+
+/// Connections that one wait of a peer may be for.
 pub const WAITING: usize = 64;
 
-/// Bytes of the largest write of a reply: a peer that takes them slowly is seen behind each.
+/// Bytes of the largest read from a client.
 pub const PIECE: usize = 65_536;
 
 /// In which a peer has to take a connection.
@@ -72,17 +84,6 @@ pub const POST: Exchange = Exchange {
     whole: 5_000,
 };
 
-/// Where a connection is.
-#[derive(Clone, Copy, PartialEq, Eq, Debug)]
-pub enum Stage {
-    /// Before a request, of which nothing was read. It began then.
-    Before(u64),
-    /// Within a request that began then.
-    Within(u64),
-    /// Within a reply that began then.
-    Replying(u64),
-}
-
 /// The shorter of two times; none where one of them is over.
 fn shorter(one: u64, other: u64) -> Option<u32>
     ensures value { one < 2 ^ 32 → result ≡ shorter one other }
@@ -99,47 +100,6 @@ fn left(whole: u64, began: u64, now: u64) -> u64
     ensures { result ≡ left whole began now }
 {
     whole.saturating_sub(now.saturating_sub(began))
-}
-
-/// How long a read may wait now, on a connection that came at `came`; none where its time is over.
-pub fn reading_limit(stage: Stage, came: u64, now: u64) -> Option<u32>
-    ensures value { result ≡ reading stage came now }
-    ensures some { IfSome result (λ n. 1 ≤ n) }
-{
-    match stage {
-        Stage::Within(began) => shorter(SILENCE_WITHIN, left(WHOLE, began, now)),
-        Stage::Before(_) | Stage::Replying(_) => between(now.saturating_sub(came)),
-    }
-}
-
-/// How long a read between two requests may wait on a connection of this age.
-fn between(age: u64) -> Option<u32>
-    ensures value { result ≡ between age }
-    ensures some { IfSome result (λ n. 1 ≤ n) }
-{
-    if age >= BUSY {
-        None
-    } else if age >= CONNECTION {
-        Some(1)
-    } else {
-        Some(SILENCE_BEFORE as u32)
-    }
-}
-
-/// How long a write of a reply that began then may wait now; none where its time is over.
-pub fn writing_limit(began: u64, now: u64) -> Option<u32>
-    ensures value { result ≡ writing began now }
-    ensures some { IfSome result (λ n. 1 ≤ n) }
-{
-    shorter(STUCK, left(TAKEN, began, now))
-}
-
-/// How long a read behind the last reply, which ended then, may wait now; none where its time is over.
-pub fn lingering_limit(began: u64, now: u64) -> Option<u32>
-    ensures value { result ≡ lingering began now }
-    ensures some { IfSome result (λ n. 1 ≤ n) }
-{
-    shorter(LINGER, left(LINGER, began, now))
 }
 
 /// How long a call of an exchange that began then may wait now; none where its time is over.

@@ -1,4 +1,1 @@
-pub mod AtHand
-pub mod Addresses
-pub mod Conversations
-pub mod Waiting
+pub mod Told

@@ -3,7 +3,7 @@ ghost use Rattle.std.specs.Prelude.{◌≡◌, ◌≤◌, IfOk, false, length, t
 ghost use Rattle.site_traits.specs.Counts.{one_more};
 ghost use Rattle.site_traits.specs.Door.{HangsUp, IsAmount, IsTaken, NextCause, Nexts, ReadCause, ReadsIn, WriteCause};
 ghost use Rattle.site_traits.specs.Door.{WritesOut, asked_for, closed, write_counts};
-ghost use Rattle.net_door.specs.AtHand.{counts_of, nothing_told};
+ghost use Rattle.net_door.specs.Told.{counts_of, nothing_told};
 
 use crate::yard::{Begun, Yard};
 use edge_limits::{Pace, Pulse};
@@ -55,6 +55,13 @@ impl<'a, N: ClientNet + Drop, T: Stopwatch + Drop> GatheringDoor<'a, N, T> {
         })
     }
 
+    /// The network.
+    pub fn net(&self) -> &N
+        ensures { result.now ≡ self.now.yard.net }
+    {
+        self.yard.net()
+    }
+
     /// Listens at the orchestrator's address and at the element manager's. Whether both could be had; where not, each
     /// `next` fails.
     pub fn listen(&mut self, orchestrator: &str, element: &str) -> bool
@@ -98,7 +105,7 @@ fn take_recorded(pulse: &Cell<Pulse>, pace: &Cell<Pace>) -> bool {
 }
 
 impl<'a, N: ClientNet + Drop, T: Stopwatch + Drop> Door for GatheringDoor<'a, N, T> {
-    ghost use Rattle.net_door.specs.AtHand.{counts_of, nothing_told};
+    ghost use Rattle.net_door.specs.Told.{counts_of, nothing_told};
     ghost use Rattle.site_traits.specs.Door.{write_counts};
 
     ghost tells = { ⊥ };

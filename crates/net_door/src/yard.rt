@@ -1,49 +1,14 @@
 //! The clients at two addresses, whose requests are gathered: no call waits for one of them.
 ghost use Rattle.std.specs.Prelude.{◌≡◌, ◌≤◌, IfOk, IfSome, length, vec_len};
 
+use edge_limits::{
+    APART, GATHERED, HELD, KEPT, LATE, LATE_REQUESTS, LINGER, LONG_REQUESTS, LONGEST, PIECE, SPENT,
+    STUCK, WITHIN,
+};
 use lcm_events::Role;
 use net_calls::{ClientNet, Line, NoConnection, Parked, Put, Stopwatch, Took};
 use request_pool::{Answering, Client, Pool, Turn, answer_head, is_set};
 use std::alloc::{AllocError, Global};
-
-/// Bytes of the largest read from a client.
-const PIECE: usize = 65_536;
-
-/// Bytes of a client that are held while its request isn't whole. Longer requests have places of their own.
-const HELD: usize = 65_536;
-
-/// Places for requests that are longer than that.
-const LONG: usize = 8;
-
-/// Milliseconds in which a client's connection may be idle between two requests: nginx keeps its own for 60,000.
-const KEPT: u64 = 75_000;
-
-/// Milliseconds in which a request has to be whole.
-const WITHIN: u64 = 30_000;
-
-/// Milliseconds in which nothing of an answer may be taken.
-const STUCK: u64 = 10_000;
-
-/// Milliseconds in which what still comes behind the last answer is dropped, so that the client reads that answer.
-const LINGER: u64 = 500;
-
-/// Requests that go first where a round is due.
-const LATE_REQUESTS: u32 = 32;
-
-/// Milliseconds that requests may go first where a round is due.
-const LATE: u64 = 5;
-
-/// Requests of one gathered connection: less than a connection has, so that the last of them tells no client to close.
-const GATHERED: u32 = 60_000;
-
-/// Milliseconds between two gathered connections that end for what can't be fed in them, while a pause runs.
-const APART: u64 = 1_000;
-
-/// Milliseconds for which nobody is let in where there is no descriptor or no memory for one more.
-const SPENT: u64 = 100;
-
-/// Milliseconds of the longest wait.
-const LONGEST: u64 = 1_000;
 
 /// Clients that are let in at once at one address.
 const AT_ONCE: u32 = 64;
@@ -725,7 +690,7 @@ fn wants_bytes(seat: Seat, client: Option<&Client>, long: usize) -> bool {
     if seat.lingers || client.held().len() < HELD {
         return true;
     }
-    !is_set(client.front()) && long <= LONG
+    !is_set(client.front()) && long <= LONG_REQUESTS
 }
 
 /// Whether room for bytes to a client is waited for.

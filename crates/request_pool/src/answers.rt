@@ -17,7 +17,7 @@ const LAST_LINES: &[u8] = b"\r\nConnection: close\r\n\r\n";
 pub struct AnswerHead {
     /// Bytes of the head, with the empty line at its end.
     pub len: usize,
-    /// Bytes of the answer.
+    /// Bytes of the answer; the most where its head says no length, so that its end is that of the connection.
     pub whole: usize,
     /// Whether it is 202: what was asked for is under way.
     pub accepted: bool,
@@ -33,7 +33,8 @@ pub fn answer_head(bytes: &[u8]) -> Option<AnswerHead>
     let head = &bytes[..len];
     let body = match end_of(head, LENGTH) {
         Some(at) => number_at(rest(head, at)),
-        None => 0,
+        None if head.starts_with(b"HTTP/1.1 204 ") => 0,
+        None => usize::MAX,
     };
     Some(AnswerHead {
         len,
