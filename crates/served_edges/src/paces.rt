@@ -64,7 +64,7 @@ pub fn note_post(pace: &Cell<Pace>, answer: PostAnswer) {
 }
 
 /// A job was looked at: one that goes on is waited for, and each other answer lets something go on.
-pub fn note_look(pace: &Cell<Pace>, answer: LookAnswer) {
+pub fn note_look(pace: &Cell<Pace>, answer: &LookAnswer) {
     match answer {
         LookAnswer::Running => note_wait(pace),
         LookAnswer::Failed => note_fault(pace),

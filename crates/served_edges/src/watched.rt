@@ -188,7 +188,7 @@ impl<'a, 'f, R: Files<File = File>, J: Jobs<File> + Drop> Jobs<NotedFile<'f, R>>
         ensures asks { J.calls self.new.jobs ≡ JobCall.looking tag.now result ∷ J.calls self.old.jobs }
     {
         let answer = self.jobs.look(tag);
-        note_look(self.pace, answer);
+        note_look(self.pace, &answer);
         if let LookAnswer::Failed = answer {
             self.faults.count(PeerKind::Infrastructure);
         }
