@@ -8,7 +8,6 @@ use Rattle.peer_exchange.specs.Exchanges.{Counts, IsSent}
 use Rattle.peer_exchange.specs.declared.exchanging.Lost.{Lost}
 use Rattle.host_calls.specs.Streams.{Incoming}
 use Rattle.http_peers.specs.Gone.{GoneOut}
-use Rattle.http_peers.specs.Kept.{limits_by}
 use Rattle.http_peers.specs.declared.kept.Kept.{Kept}
 use Rattle.http_peers.specs.Sent.{IsConnected, IsHad, IsNotHad, IsOpenAt, IsOpenFor, IsOpenTo, IsWhyUnopened}
 use Rattle.http_peers.specs.Sent.{Awaits, Calls, CallsBy, IsWhyUnopenedAt, IsWhyUnsent, Sends, SendsTo, fault_by}
@@ -156,13 +155,13 @@ module _ {C : Type 0} (outgoing : C → List ℕ) (incoming : C → Incoming) (v
   awaits_for leads request hears heard target (Some fault.Memory) kept now found same awaits = absurd awaits
 
   -- a call by what was found of its target
-  pub calls_for : (leads : Target → Type 0) (request : List ℕ → List ℕ → List ℕ) (limits : Exchange) (hears heard : List ℕ → Type 0)
+  pub calls_for : (leads : Target → Type 0) (request : List ℕ → List ℕ → List ℕ) (limits : List ℕ → Exchange) (hears heard : List ℕ → Type 0)
       (target : Result Target TargetFault) (why : Option CallFault) (kept now : List (Kept C)) (old new : List GoneOut)
       → Finds leads target → (why ≡ None → (bytes : List ℕ) → heard bytes → hears bytes)
       → CallsBy outgoing incoming vain was offered target request limits heard why kept now old new
       → Calls outgoing incoming vain was offered leads request limits hears why kept now old new
   calls_for leads request limits hears heard (Ok target) why kept now old new found same (inl sends) =
-      inl (sends_for outgoing (λ c. (incoming c).left) vain was offered leads request (limits_by kept limits) hears heard target why old new
+      inl (sends_for outgoing (λ c. (incoming c).left) vain was offered leads request limits hears heard target why old new
       found same sends)
   calls_for leads request limits hears heard (Ok target) why kept now old new found same (inr awaits) =
       inr (awaits.0, awaits_for leads request hears heard target why kept now found same awaits.1)
@@ -174,7 +173,7 @@ module _ {C : Type 0} (outgoing : C → List ℕ) (incoming : C → Incoming) (v
       (inl (tt, calls.1))
 
   -- a call to a target that was found
-  pub calls_found : (request : List ℕ → List ℕ → List ℕ) (limits : Exchange) (hears heard : List ℕ → Type 0)
+  pub calls_found : (request : List ℕ → List ℕ → List ℕ) (limits : List ℕ → Exchange) (hears heard : List ℕ → Type 0)
       (found : Result Target TargetFault) (target : Target) (why was_why : Option CallFault) (kept now was_now : List (Kept C))
       (old new was_new : List GoneOut) → found ≡ Ok target → hears ≡ heard → why ≡ was_why → now ≡ was_now → new ≡ was_new
       → Calls outgoing incoming vain was offered (λ t. t ≡ target) request limits heard was_why kept was_now old was_new
@@ -188,7 +187,7 @@ module _ {C : Type 0} (outgoing : C → List ℕ) (incoming : C → Incoming) (v
       calls))))
 
   -- nothing goes out where none was found
-  pub calls_none : (request : List ℕ → List ℕ → List ℕ) (limits : Exchange) (hears : List ℕ → Type 0)
+  pub calls_none : (request : List ℕ → List ℕ → List ℕ) (limits : List ℕ → Exchange) (hears : List ℕ → Type 0)
       (found : Result Target TargetFault) (fault : TargetFault) (why : Option CallFault) (kept now : List (Kept C))
       (old new : List GoneOut) → found ≡ Err fault → why ≡ Some (fault_by fault) → new ≡ old
       → CallsBy outgoing incoming vain was offered found request limits hears why kept now old new

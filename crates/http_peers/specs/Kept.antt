@@ -1,5 +1,5 @@
 -- Exchanges whose answers weren't whole in their time, and may come yet (own rules).
-use Rattle.std.specs.Prelude.{◌≡◌, ◌<◌, ℕ, ◌+◌, ◌&&◌, Bool, List, [], ◌∷◌, ◌++◌, ◌⊎◌, length, take, drop, slice_index_or, if◌then◌else◌}
+use Rattle.std.specs.Prelude.{◌≡◌, ◌<◌, ℕ, ◌+◌, ◌&&◌, Bool, String, List, [], ◌∷◌, ◌++◌, ◌⊎◌, length, take, drop, slice_index_or, if◌then◌else◌}
 use Rattle.std.specs.List.{list_any}
 use Rattle.std.specs.Str.{bytes_eq}
 use Rattle.std.specs.String.{string_bytes}
@@ -16,17 +16,17 @@ is_with address k = bytes_eq (string_bytes k.address) address
 abbrev pub is_of : {C : Type 0} → List ℕ → List ℕ → Kept C → Bool
 is_of address request k = is_with address k && bytes_eq k.request request
 
--- an answer of this address is awaited
-abbrev pub is_awaited : {C : Type 0} → List ℕ → List (Kept C) → Bool
-is_awaited address kept = list_any (is_with address) kept
+-- the address is among those of which an answer is awaited
+abbrev pub is_silent : {Z : Type 0} → List ℕ → List (String Z) → Bool
+is_silent address silent = list_any (λ one. bytes_eq (string_bytes one) address) silent
 
 -- an exchange that nobody waits for
 abbrev pub at_once : Exchange
 at_once = record { silence = 1; whole = 1000 }
 
 -- the limits of an exchange with an address: where an answer of it is awaited already nobody waits
-abbrev pub limits_by : {C : Type 0} → List (Kept C) → Exchange → List ℕ → Exchange
-limits_by kept limits address = if is_awaited address kept then at_once else limits
+abbrev pub limits_by : {Z : Type 0} → List (String Z) → Exchange → List ℕ → Exchange
+limits_by silent limits address = if is_silent address silent then at_once else limits
 
 -- this is the exchange of this request with this address
 pub record IsOf {C : Type 0} (address request : List ℕ) (k : Kept C) : Type 0 where

@@ -15,7 +15,7 @@ use Rattle.site_traits.specs.declared.orchestrator.Call.{Call}
 use Rattle.site_traits.specs.declared.orchestrator.Call.TheVariants as call
 use Rattle.host_calls.specs.Streams.{Incoming}
 use Rattle.http_peers.specs.Gone.{GoneOut}
-use Rattle.http_peers.specs.Kept.{IsTakenAt, KeptGoesOn, limits_by}
+use Rattle.http_peers.specs.Kept.{IsTakenAt, KeptGoesOn}
 use Rattle.http_peers.specs.declared.kept.Kept.{Kept}
 use Rattle.http_peers.specs.Peers.{JudgedIs}
 use Rattle.http_peers.specs.declared.faults.CallFault.{CallFault}
@@ -189,19 +189,18 @@ Awaits outgoing incoming leads request hears None old new = TakesFrom outgoing i
 Awaits outgoing incoming leads request hears (Some (fault.Lost why)) old new = IsAwaited leads request old
 Awaits outgoing incoming leads request hears (Some why) old new = ⊥
 
--- What goes out for a call on a peer of which these exchanges were kept: the request, by what `Sends` says, under limits for
--- which nobody waits where an answer of its address is awaited already; or nothing, and an answer is taken of an exchange
+-- What goes out for a call on a peer of which these exchanges were kept: the request, by what `Sends` says; or nothing, and an answer is taken of an exchange
 -- that was kept, or awaited still.
 abbrev pub Calls : {C : Type 0} → (C → List ℕ) → (C → Incoming) → (C → Vain) → Option (Opened C) → (List ℕ → Option C)
-    → (Target → Type 0) → (List ℕ → List ℕ → List ℕ) → Exchange → (List ℕ → Type 0) → Option CallFault
+    → (Target → Type 0) → (List ℕ → List ℕ → List ℕ) → (List ℕ → Exchange) → (List ℕ → Type 0) → Option CallFault
     → List (Kept C) → List (Kept C) → List GoneOut → List GoneOut → Type 0
 Calls outgoing incoming vain was offered leads request limits hears why kept kept_new old new =
-    Sends outgoing (λ c. (incoming c).left) vain was offered leads request (limits_by kept limits) hears why old new
+    Sends outgoing (λ c. (incoming c).left) vain was offered leads request limits hears why old new
     ⊎ ((new ≡ old) × Awaits outgoing incoming leads request hears why kept kept_new)
 
 -- the same of a call to this target, or to none
 abbrev pub CallsBy : {C : Type 0} → (C → List ℕ) → (C → Incoming) → (C → Vain) → Option (Opened C) → (List ℕ → Option C)
-    → Result Target TargetFault → (List ℕ → List ℕ → List ℕ) → Exchange → (List ℕ → Type 0) → Option CallFault
+    → Result Target TargetFault → (List ℕ → List ℕ → List ℕ) → (List ℕ → Exchange) → (List ℕ → Type 0) → Option CallFault
     → List (Kept C) → List (Kept C) → List GoneOut → List GoneOut → Type 0
 CallsBy outgoing incoming vain was offered (Ok target) request limits hears why kept kept_new old new =
     Calls outgoing incoming vain was offered (λ t. t ≡ target) request limits hears why kept kept_new old new

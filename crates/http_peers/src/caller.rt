@@ -4,13 +4,13 @@ ghost use Rattle.std.specs.Result.{result_err};
 ghost use Rattle.std.specs.String.{string_bytes};
 ghost use Rattle.http_client.specs.Requests.{request};
 ghost use Rattle.net_calls.specs.Network.{offer_of};
-ghost use Rattle.http_peers.specs.Kept.{GoesOn, KeptGoesOn};
+ghost use Rattle.http_peers.specs.Kept.{GoesOn, KeptGoesOn, limits_by};
 ghost use Rattle.http_peers.specs.Peers.{IsWholeAnswer};
 ghost use Rattle.http_peers.specs.Sent.{Calls, ConnectsAtMostOnce, IsConnected, IsInLimits, IsLostBy, IsOpenTo};
 ghost use Rattle.http_peers.specs.Sent.{IsHeardFrom, IsUnopened, IsWhyUnopened};
 
 use crate::faults::CallFault;
-use crate::kept::{KEPT_BYTES, Kept, limits_for, put_in, take_out};
+use crate::kept::{KEPT_BYTES, Kept, limits_for, note_answer, note_silence, put_in, take_out};
 use crate::opened::Opened;
 use crate::replies::HttpReply;
 use crate::sent_log::SentLog;
@@ -34,6 +34,7 @@ pub struct HttpCaller<N: HostNet + Drop, T: Stopwatch + Drop> {
     watch: T,
     opened: Option<Opened<N::Connection>>,
     pub kept: Vec<Kept<N::Connection>>,
+    pub silent: Vec<String>,
     pub room: Room,
     pub reply: HttpReply,
     pub log: SentLog,
@@ -53,6 +54,7 @@ impl<N: HostNet + Drop, T: Stopwatch + Drop> HttpCaller<N, T> {
             watch,
             opened: None,
             kept: Vec::new(alloc),
+            silent: Vec::new(alloc),
             room,
             reply,
             log: SentLog::new(),
@@ -104,8 +106,8 @@ impl<N: HostNet + Drop, T: Stopwatch + Drop> HttpCaller<N, T> {
 
     /// Hears the answer to a request of this body to this target: of an exchange of that very request that was kept, or
     /// of one that is begun for it, by sending the request once, on the connection to the target that is open, or on one
-    /// that is opened for it. It is waited for within these limits, and where an answer of that address is awaited
-    /// already, not at all. An exchange that was sent and whose answer isn't whole in its time is kept. No connection is
+    /// that is opened for it. It is waited for within these limits, and behind a silence of that address, until it
+    /// answers again, not at all. An exchange that was sent and whose answer isn't whole in its time is kept. No connection is
     /// open then.
     ///
     /// Failures: `Unreached` where the network gives no connection, and `Memory`, behind which nothing was sent; `Lost`
@@ -122,7 +124,7 @@ impl<N: HostNet + Drop, T: Stopwatch + Drop> HttpCaller<N, T> {
         ensures heard { OnOk result (IsWholeAnswer self.new.room.bytes.items self.new.reply.heard) }
         ensures sends { N.tells → N.Connection.tells → Calls N.Connection.outgoing N.Connection.incoming
             N.Connection.vain self.old.opened (λ a. offer_of (N.peers self.old.net a))
-            (λ t. t ≡ target.now) (λ host path. request method.now host path body.now) limits
+            (λ t. t ≡ target.now) (λ host path. request method.now host path body.now) (limits_by self.old.silent.items limits)
             (IsHeardFrom self.new.room.bytes.items self.new.reply.heard) (result_err result)
             self.old.kept.items self.new.kept.items self.old.log.sent self.new.log.sent }
         ensures own { N.Connection.tells → All (KeptGoesOn N.Connection.outgoing N.Connection.incoming)
@@ -137,7 +139,7 @@ impl<N: HostNet + Drop, T: Stopwatch + Drop> HttpCaller<N, T> {
             self.close();
             return Err(CallFault::Memory);
         };
-        let limits = limits_for(&self.kept, &target.address, limits);
+        let limits = limits_for(&self.silent, &target.address, limits);
         if let Some(kept) = take_out(&mut self.kept, &target.address, bytes.as_slice()) {
             return self.take_up(alloc, kept);
         }
@@ -159,7 +161,10 @@ impl<N: HostNet + Drop, T: Stopwatch + Drop> HttpCaller<N, T> {
         let ended = (opened, limits);
         self.log = self.log.with(&ended);
         match done {
-            Ok(_) => Ok(()),
+            Ok(_) => {
+                note_answer(&mut self.silent, &target.address);
+                Ok(())
+            }
             Err(Lost::Unread) => {
                 self.keep(alloc, ended.0, bytes);
                 Err(CallFault::Lost(Lost::Unread))
@@ -177,8 +182,13 @@ impl<N: HostNet + Drop, T: Stopwatch + Drop> HttpCaller<N, T> {
             → All (KeptGoesOn N.Connection.outgoing N.Connection.incoming) self.new.kept.items }
         ensures room { self.new.room.bytes.items ≡ [] }
         ensures most { self.new.room.most ≡ self.old.room.most }
-        ensures rest { self.new ≡ record self.old { kept = self.new.kept; room = self.new.room } }
+        ensures rest { self.new ≡ record self.old {
+          kept = self.new.kept;
+          silent = self.new.silent;
+          room = self.new.room;
+        } }
     {
+        note_silence(alloc, &mut self.silent, &opened.address);
         let came = mem::replace(&mut self.room.bytes, Vec::new(alloc));
         if came.len() > KEPT_BYTES {
             return;
@@ -220,7 +230,10 @@ impl<N: HostNet + Drop, T: Stopwatch + Drop> HttpCaller<N, T> {
         self.room.bytes = came;
         self.reply.renew();
         match go_on(&mut connection, &mut self.reply, &mut self.room) {
-            Progress::Whole => return Ok(()),
+            Progress::Whole => {
+                note_answer(&mut self.silent, &address);
+                return Ok(());
+            }
             Progress::Part => {
                 let came = mem::replace(&mut self.room.bytes, Vec::new(alloc));
                 if came.len() <= KEPT_BYTES {

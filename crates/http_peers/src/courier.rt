@@ -5,7 +5,7 @@ ghost use Rattle.http_client.specs.Requests.{request};
 ghost use Rattle.net_calls.specs.Network.{offer_of};
 ghost use Rattle.site_traits.specs.Counts.{one_more};
 ghost use Rattle.site_traits.specs.Peers.{Posts, PostCause};
-ghost use Rattle.http_peers.specs.Kept.{KeptGoesOn};
+ghost use Rattle.http_peers.specs.Kept.{KeptGoesOn, limits_by};
 ghost use Rattle.http_peers.specs.Peers.{counted, IsWholeAnswer};
 ghost use Rattle.http_peers.specs.Sent.{IsConnected, IsHeardFrom, IsInLimits, IsLostBy, IsOpenFor, IsWhyUnsent};
 ghost use Rattle.http_peers.specs.Sent.{Calls, was_posted};
@@ -106,7 +106,8 @@ impl<'a, N: HostNet + Drop, T: Stopwatch + Drop> Courier for RealCourier<'a, N, 
         ensures fault { was_posted result ≡ is_none self.new.peer.fault }
         ensures sends { N.tells → N.Connection.tells → Calls N.Connection.outgoing N.Connection.incoming N.Connection.vain
             self.old.peer.caller.opened (λ a. offer_of (N.peers self.old.peer.caller.net a))
-            (IsCallbackTarget uri.now) (λ host path. request (codes "POST") host path body.now) POST
+            (IsCallbackTarget uri.now) (λ host path. request (codes "POST") host path body.now)
+            (limits_by self.old.peer.caller.silent.items POST)
             (IsHeardFrom self.new.peer.caller.room.bytes.items self.new.peer.caller.reply.heard)
             self.new.peer.fault self.old.peer.caller.kept.items self.new.peer.caller.kept.items
             self.old.peer.caller.log.sent self.new.peer.caller.log.sent }

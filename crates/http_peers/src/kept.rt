@@ -1,8 +1,9 @@
 //! Exchanges whose answers weren't whole in their time, and may come yet.
 ghost use Rattle.std.specs.Prelude.{◌≡◌, ◌<◌, ◌^◌, ◌⊎◌, IfSome, length, slice_index_or};
-ghost use Rattle.http_peers.specs.Kept.{IsOf, IsOneLess, IsPutIn, IsTakenAt, is_awaited, is_of, is_with, limits_by};
+ghost use Rattle.http_peers.specs.Kept.{IsOf, IsOneLess, IsPutIn, IsTakenAt, is_of, is_silent, is_with, limits_by};
 
 use edge_limits::Exchange;
+use std::alloc::Global;
 use vnfm_base::Bytes;
 
 /// Exchanges that are kept: one more closes the one that was kept or asked for longest ago.
@@ -48,21 +49,21 @@ fn is_of<C: Drop>(kept: &Kept<C>, address: &str, request: &[u8]) -> bool
     is_with(kept, address) && kept.request.as_slice() == request
 }
 
-/// Whether an answer of this address is awaited.
-fn is_awaited<C: Drop>(kept: &[Kept<C>], address: &str) -> bool
-    ensures { result ≡ is_awaited address.now kept.now }
+/// Whether this address is among those of which an answer is awaited.
+fn is_silent(silent: &[String], address: &str) -> bool
+    ensures { result ≡ is_silent address.now silent.now }
 {
-    kept.iter().any(|one| is_with(one, address))
+    silent.iter().any(|one| one.as_str() == address)
 }
 
-/// The limits of an exchange with this address: those that are given, or where an answer of it is awaited already, those
-/// for which nobody waits.
-pub fn limits_for<C: Drop>(kept: &[Kept<C>], address: &str, limits: Exchange) -> Exchange
+/// The limits of an exchange with this address: those that are given, or where it is one of those of which an answer is
+/// awaited already, those for which nobody waits.
+pub fn limits_for(silent: &[String], address: &str, limits: Exchange) -> Exchange
     requires { limits.silence < 2 ^ 32 }
-    ensures value { result ≡ limits_by kept.now limits address.now }
+    ensures value { result ≡ limits_by silent.now limits address.now }
     ensures short { result.silence < 2 ^ 32 }
 {
-    if is_awaited(kept, address) {
+    if is_silent(silent, address) {
         AT_ONCE
     } else {
         limits
@@ -101,4 +102,27 @@ pub fn put_in<C: Drop>(kept: &mut Vec<Kept<C>>, one: Kept<C>)
         drop(kept.remove(0));
     }
     let _ = kept.push(one);
+}
+
+/// An answer of this address is awaited from now on. Without memory it isn't, so that the next call waits again.
+pub fn note_silence(alloc: Global, silent: &mut Vec<String>, address: &str) {
+    if is_silent(silent, address) {
+        return;
+    }
+    if silent.len() >= MOST_KEPT {
+        drop(silent.remove(0));
+    }
+    if let Ok(address) = String::from_str(alloc, address) {
+        let _ = silent.push(address);
+    }
+}
+
+/// This address has answered, so that its peer is waited for again.
+pub fn note_answer(silent: &mut Vec<String>, address: &str) {
+    for place in 0..silent.len() {
+        if silent[place].as_str() == address {
+            drop(silent.remove(place));
+            return;
+        }
+    }
 }

@@ -7,7 +7,7 @@ ghost use Rattle.net_calls.specs.Network.{offer_of};
 ghost use Rattle.url.specs.Parts.{Parts};
 ghost use Rattle.site_traits.specs.Counts.{one_more};
 ghost use Rattle.site_traits.specs.Peers.{Asks, Polls, CallCause};
-ghost use Rattle.http_peers.specs.Kept.{KeptGoesOn};
+ghost use Rattle.http_peers.specs.Kept.{KeptGoesOn, limits_by};
 ghost use Rattle.http_peers.specs.Peers.{counted, silent, IsWholeAnswer};
 ghost use Rattle.http_peers.specs.Sent.{IsConnected, IsHeardFrom, IsInLimits, IsLostBy, IsOpenFor, IsWhyUnsent};
 ghost use Rattle.http_peers.specs.Sent.{Calls, has_come};
@@ -209,7 +209,7 @@ impl<'a, N: HostNet + Drop, T: Stopwatch + Drop> Orchestrator for RealOrchestrat
         ensures sends { N.tells → N.Connection.tells → Calls N.Connection.outgoing N.Connection.incoming N.Connection.vain
             self.old.peer.caller.opened (λ a. offer_of (N.peers self.old.peer.caller.net a))
             (IsGrantTarget self.old.at None) (λ host path. request (codes "POST") host path body.now)
-            ORCHESTRATOR (IsHeardFrom self.new.peer.caller.room.bytes.items heard.new) self.new.peer.fault
+            (limits_by self.old.peer.caller.silent.items ORCHESTRATOR) (IsHeardFrom self.new.peer.caller.room.bytes.items heard.new) self.new.peer.fault
             self.old.peer.caller.kept.items self.new.peer.caller.kept.items
             self.old.peer.caller.log.sent self.new.peer.caller.log.sent }
         ensures own { N.Connection.tells → All (KeptGoesOn N.Connection.outgoing N.Connection.incoming)
@@ -240,7 +240,7 @@ impl<'a, N: HostNet + Drop, T: Stopwatch + Drop> Orchestrator for RealOrchestrat
         ensures sends { N.tells → N.Connection.tells → Calls N.Connection.outgoing N.Connection.incoming N.Connection.vain
             self.old.peer.caller.opened (λ a. offer_of (N.peers self.old.peer.caller.net a))
             (IsGrantTarget self.old.at (Some location.now)) (λ host path. request (codes "GET") host path [])
-            ORCHESTRATOR (IsHeardFrom self.new.peer.caller.room.bytes.items heard.new) self.new.peer.fault
+            (limits_by self.old.peer.caller.silent.items ORCHESTRATOR) (IsHeardFrom self.new.peer.caller.room.bytes.items heard.new) self.new.peer.fault
             self.old.peer.caller.kept.items self.new.peer.caller.kept.items
             self.old.peer.caller.log.sent self.new.peer.caller.log.sent }
         ensures own { N.Connection.tells → All (KeptGoesOn N.Connection.outgoing N.Connection.incoming)

@@ -5,7 +5,7 @@ ghost use Rattle.std.specs.Result.{is_ok, result_err};
 ghost use Rattle.http_client.specs.Requests.{request};
 ghost use Rattle.net_calls.specs.Network.{offer_of};
 ghost use Rattle.site_traits.specs.Counts.{one_more};
-ghost use Rattle.http_peers.specs.Kept.{KeptGoesOn};
+ghost use Rattle.http_peers.specs.Kept.{KeptGoesOn, limits_by};
 ghost use Rattle.http_peers.specs.Peers.{IsWholeAnswer};
 ghost use Rattle.http_peers.specs.Sent.{IsConnected, IsHeardFrom, IsInLimits, IsLostBy, IsOpenAt, IsWhyUnopenedAt};
 ghost use Rattle.http_peers.specs.Sent.{CallsBy};
@@ -100,7 +100,7 @@ impl<'a, N: HostNet + Drop, T: Stopwatch + Drop> HttpPeer<'a, N, T> {
             → IsWholeAnswer self.new.caller.room.bytes.items self.new.caller.reply.heard }
         ensures sends { N.tells → N.Connection.tells → CallsBy N.Connection.outgoing N.Connection.incoming
             N.Connection.vain self.old.caller.opened (λ a. offer_of (N.peers self.old.caller.net a)) target
-            (λ host path. request method.now host path body.now) limits
+            (λ host path. request method.now host path body.now) (limits_by self.old.caller.silent.items limits)
             (IsHeardFrom self.new.caller.room.bytes.items self.new.caller.reply.heard) self.new.fault
             self.old.caller.kept.items self.new.caller.kept.items self.old.caller.log.sent self.new.caller.log.sent }
         ensures own { N.Connection.tells → All (KeptGoesOn N.Connection.outgoing N.Connection.incoming)

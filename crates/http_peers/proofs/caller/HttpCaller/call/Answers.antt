@@ -15,7 +15,7 @@ pub returns-in-Err-clause-sends : goal.returns-in-Err-clause-sends
 returns-in-Err-clause-sends g c = λ tells told.
     inl (sends_nothing g.N.Connection.Connection.outgoing (λ x. (g.N.Connection.Connection.incoming x).left) g.N.Connection.Connection.vain
     c.args.self.now.opened (λ a. offer_of (g.N.HostNet.peers c.args.self.now.net a))
-    (λ host path. request c.args.method.now host path c.args.body.now) (limits_by c.args.self.now.kept.items c.args.limits)
+    (λ host path. request c.args.method.now host path c.args.body.now) (limits_by c.args.self.now.silent.items c.args.limits)
     (IsHeardFrom c.connect.new.self.room.bytes.items c.connect.new.self.reply.heard) _ _ _ _ _
     c.deref-4.ensures (c.in-Err.ensures.why tells) (ap (λ s. s.log.sent) c.connect.ensures.rest))
 
@@ -48,9 +48,9 @@ returns-in-Err-clause-own g c = λ tells holds.
 
 pub returns-in-Ok-done-clause-sends : goal.returns-in-Ok-done-clause-sends
 returns-in-Ok-done-clause-sends g c = λ tells told. let replied = c.in-Ok-done.ensures.replied in
-    inl (sends_one _ _ _ _ _ _ (limits_by c.args.self.now.kept.items c.args.limits) _ _ _ _ _ _ _ _ _ _ _ _ _ _ c.deref-4.ensures
+    inl (sends_one _ _ _ _ _ _ (limits_by c.args.self.now.silent.items c.args.limits) _ _ _ _ _ _ _ _ _ _ _ _ _ _ c.deref-4.ensures
     (c.limits_for-limits.ensures.value ∙ ap (λ k. limits_by k c.args.limits c.deref-2.result.now) c.deref.ensures.value
-    ∙ ap (limits_by c.args.self.now.kept.items c.args.limits) (c.deref-2.ensures ∙ sym c.deref-4.ensures))
+    ∙ ap (limits_by c.args.self.now.silent.items c.args.limits) (c.deref-2.ensures ∙ sym c.deref-4.ensures))
     (sym c.take.ensures.value ∙ c.in-Some-take.is)
     c.in_default-connect.ensures.opens (c.connect.ensures.had tells) (c.as_slice-2.ensures ∙ c.in-Ok.ensures)
     (c.in-Ok-done.ensures.sends told) (c.in-Ok-done.ensures.counts told) (λ _. record {
@@ -71,9 +71,9 @@ returns-in-Ok-done-clause-own g c = λ tells holds.
 pub returns-in-Err-Unread-clause-sends : goal.returns-in-Err-Unread-clause-sends
 returns-in-Err-Unread-clause-sends g c = λ tells told.
     let why : result_err c.exchange-done.result ≡ Some lost.Unread = search rules in
-    inl (sends_one _ _ _ _ _ _ (limits_by c.args.self.now.kept.items c.args.limits) _ _ _ _ _ _ _ _ _ _ _ _ _ _ c.deref-4.ensures
+    inl (sends_one _ _ _ _ _ _ (limits_by c.args.self.now.silent.items c.args.limits) _ _ _ _ _ _ _ _ _ _ _ _ _ _ c.deref-4.ensures
     (c.limits_for-limits.ensures.value ∙ ap (λ k. limits_by k c.args.limits c.deref-2.result.now) c.deref.ensures.value
-    ∙ ap (limits_by c.args.self.now.kept.items c.args.limits) (c.deref-2.ensures ∙ sym c.deref-4.ensures))
+    ∙ ap (limits_by c.args.self.now.silent.items c.args.limits) (c.deref-2.ensures ∙ sym c.deref-4.ensures))
     (sym c.take.ensures.value ∙ c.in-Some-take.is)
     c.in_default-connect.ensures.opens (c.connect.ensures.had tells) (c.as_slice-2.ensures ∙ c.in-Ok.ensures)
     (subst (λ w. IsSent w c.as_slice-2.result.now (g.N.Connection.Connection.outgoing c.in-Some-take.opened.connection)
@@ -101,9 +101,9 @@ pub returns-in-Err-done : goal.returns-in-Err-done
 returns-in-Err-done g c = record {
   heard = tt;
   sends = λ tells told.
-      inl (sends_one _ _ _ _ _ _ (limits_by c.args.self.now.kept.items c.args.limits) _ _ _ _ _ _ _ _ _ _ _ _ _ _ c.deref-4.ensures
+      inl (sends_one _ _ _ _ _ _ (limits_by c.args.self.now.silent.items c.args.limits) _ _ _ _ _ _ _ _ _ _ _ _ _ _ c.deref-4.ensures
       (c.limits_for-limits.ensures.value ∙ ap (λ k. limits_by k c.args.limits c.deref-2.result.now) c.deref.ensures.value
-      ∙ ap (limits_by c.args.self.now.kept.items c.args.limits) (c.deref-2.ensures ∙ sym c.deref-4.ensures))
+      ∙ ap (limits_by c.args.self.now.silent.items c.args.limits) (c.deref-2.ensures ∙ sym c.deref-4.ensures))
       (sym c.take.ensures.value ∙ c.in-Some-take.is)
       c.in_default-connect.ensures.opens (c.connect.ensures.had tells) (c.as_slice-2.ensures ∙ c.in-Ok.ensures)
       (c.in-Err-done.ensures.sends told) (c.in-Err-done.ensures.counts told) unanswered (ap (λ s. s.log.sent) c.connect.ensures.rest)

@@ -5,6 +5,7 @@ use Rattle.std.specs.Option.{is_none}
 use Rattle.http_client.specs.Requests.{request}
 use Rattle.net_calls.specs.Network.{offer_of}
 use Rattle.edge_limits.specs.declared.limits.TheConstants.{ORCHESTRATOR}
+use Rattle.http_peers.specs.Kept.{limits_by}
 use Rattle.http_peers.specs.Sent.{IsHeardFrom}
 use Rattle.http_peers.specs.Targets.{IsGrantTarget}
 use Rattle.http_peers.proofs.SentLemmas.{calls_for}
@@ -14,7 +15,7 @@ pub returns-clause-sends : goal.returns-clause-sends
 returns-clause-sends g c = λ tells told.
     calls_for g.N.Connection.Connection.outgoing g.N.Connection.Connection.incoming g.N.Connection.Connection.vain
     c.args.self.now.peer.caller.opened (λ a. offer_of (g.N.HostNet.peers c.args.self.now.peer.caller.net a))
-    (IsGrantTarget c.args.self.now.at (Some c.args.location.now)) (λ host path. request (codes "GET") host path []) ORCHESTRATOR
+    (IsGrantTarget c.args.self.now.at (Some c.args.location.now)) (λ host path. request (codes "GET") host path []) (limits_by c.args.self.now.peer.caller.silent.items ORCHESTRATOR)
     (IsHeardFrom c.request-came.new.self.caller.room.bytes.items c.answer.new.heard)
     (IsHeardFrom c.request-came.new.self.caller.room.bytes.items c.request-came.new.self.caller.reply.heard)
     c.target_at-target.result c.request-came.new.self.fault

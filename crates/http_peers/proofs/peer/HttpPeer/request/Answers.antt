@@ -3,6 +3,7 @@ use Rattle.std.proofs.Common.{Some, ap, ◌∙◌}
 use Rattle.std.specs.Result.{result_err}
 use Rattle.http_client.specs.Requests.{request}
 use Rattle.net_calls.specs.Network.{offer_of}
+use Rattle.http_peers.specs.Kept.{limits_by}
 use Rattle.http_peers.specs.Sent.{IsHeardFrom}
 use Rattle.http_peers.proofs.SentLemmas.{calls_found, calls_none}
 use Rattle.http_peers.proofs.peer.HttpPeer.request.Goals.{in-Ok, in-Err}
@@ -13,7 +14,7 @@ returns-clause-sends g c = elim c.match-target.branch [
   | in-Ok w ↦ λ tells told.
       calls_found g.N.Connection.Connection.outgoing g.N.Connection.Connection.incoming g.N.Connection.Connection.vain
       c.args.self.now.caller.opened (λ a. offer_of (g.N.HostNet.peers c.args.self.now.caller.net a))
-      (λ host path. request c.args.method.now host path c.args.body.now) c.args.limits
+      (λ host path. request c.args.method.now host path c.args.body.now) (limits_by c.args.self.now.caller.silent.items c.args.limits)
       (IsHeardFrom c.note.new.self.caller.room.bytes.items c.note.new.self.caller.reply.heard)
       (IsHeardFrom w.call-done.new.self.room.bytes.items w.call-done.new.self.reply.heard) c.args.target w.in-Ok.target
       c.note.new.self.fault (result_err w.call-done.result)
@@ -28,7 +29,7 @@ returns-clause-sends g c = elim c.match-target.branch [
   | in-Err w ↦ λ tells told.
       calls_none g.N.Connection.Connection.outgoing g.N.Connection.Connection.incoming g.N.Connection.Connection.vain
       c.args.self.now.caller.opened (λ a. offer_of (g.N.HostNet.peers c.args.self.now.caller.net a))
-      (λ host path. request c.args.method.now host path c.args.body.now) c.args.limits
+      (λ host path. request c.args.method.now host path c.args.body.now) (limits_by c.args.self.now.caller.silent.items c.args.limits)
       (IsHeardFrom c.note.new.self.caller.room.bytes.items c.note.new.self.caller.reply.heard) c.args.target
       w.in-Err.fault c.note.new.self.fault c.args.self.now.caller.kept.items c.note.new.self.caller.kept.items
       c.args.self.now.caller.log.sent c.note.new.self.caller.log.sent w.in-Err.is
