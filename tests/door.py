@@ -82,11 +82,19 @@ def until_end(connection):
     return got, time.time() - begun
 
 
+def upto(connection, count):
+    """So many bytes that come, or fewer where the connection ends."""
+    got = b""
+    while len(got) < count and (more := connection.recv(count - len(got))):
+        got += more
+    return got
+
+
 def ask(connection):
     """The answer to one request, and how long it takes."""
     begun = time.time()
     connection.sendall(GET)
-    got = connection.recv(len(FINE), socket.MSG_WAITALL)
+    got = upto(connection, len(FINE))
     return got, time.time() - begun
 
 
@@ -95,7 +103,7 @@ def pieces(door):
     for byte in GET:
         connection.sendall(bytes([byte]))
         time.sleep(0.01)
-    expect("a request in pieces of a byte", connection.recv(len(FINE), socket.MSG_WAITALL), FINE)
+    expect("a request in pieces of a byte", upto(connection, len(FINE)), FINE)
     connection.close()
     connection = door.connect(1)
     connection.sendall(GET * 3)
@@ -103,7 +111,7 @@ def pieces(door):
     expect("three requests in one piece, at the other address, and then its end", until_end(connection)[0], FINE * 3)
     connection = door.connect()
     connection.sendall(b"POST /fine HTTP/1.1\r\nTransfer-Encoding: chunked\r\n\r\n" + b"1\r\nx\r\n" * 50_000 + b"0\r\n\r\n" + GET)
-    expect("a long one in chunks, and another behind it", connection.recv(2 * len(FINE), socket.MSG_WAITALL), FINE * 2)
+    expect("a long one in chunks, and another behind it", upto(connection, 2 * len(FINE)), FINE * 2)
 
 
 def closing(door):
@@ -149,7 +157,7 @@ def others(door):
     for connection in deaf:
         connection.sendall(GET * 400)
     beside(door, "20 that read none of 400 answers")
-    expect("all that said nothing are still heard", [ask(connection)[0] for connection in kept], [FINE] * 500)
+    expect("all that said nothing are still heard", sum(ask(connection)[0] == FINE for connection in kept), 500)
     spent = door.processor()
     time.sleep(2)
     within("beside them, in two seconds of the processor", door.processor() - spent, 0.0, 0.3)
@@ -159,9 +167,11 @@ def others(door):
 
 def kept_long(door):
     connection = door.connect()
-    expect("kept for 12 s, asked each 3 s", [(ask(connection)[0], time.sleep(3))[0] for _ in range(4)], [FINE] * 4)
+    expect("kept for 12 s, asked each 3 s, it is answered", sum((ask(connection)[0] == FINE, time.sleep(3))[0] for _ in range(4)), 4)
     connection.sendall(GET * 2000)
-    expect("  and 2,000 times at once", connection.recv(2000 * len(FINE), socket.MSG_WAITALL), FINE * 2000)
+    begun = time.time()
+    expect("  and 2,000 times at once", upto(connection, 2000 * len(FINE)) == FINE * 2000, True)
+    within("  in", time.time() - begun, 0.0, 2.0)
 
 
 def stuck(door):
@@ -208,10 +218,12 @@ def descriptors():
     spent = door.processor()
     time.sleep(2)
     within("with more clients than descriptors, in two seconds of the processor", door.processor() - spent, 0.0, 0.1)
-    expect("  the last that came is heard", ask(peers[-1])[0], FINE)
+    peers[-1].sendall(GET)
+    expect("  the last that came is heard, and closed behind its answer", until_end(peers[-1])[0], LAST)
     expect("  and the first has gone", until_end(peers[0])[0], b"")
-    for peer in peers[1:]:
+    for peer in peers:
         peer.close()
+    time.sleep(1)
     expect("  and behind them another one", ask(door.connect())[0], FINE)
     expect("  it runs still", door.process.poll(), None)
     door.end()
