@@ -1,5 +1,5 @@
 //! The door at two addresses: whose requests are gathered into one connection, what ends it, and how long is waited.
-ghost use Rattle.std.specs.Prelude.{◌≡◌};
+ghost use Rattle.std.specs.Prelude.{◌≡◌, true};
 
 use crate::connections::connection;
 use crate::networks::list;
@@ -109,29 +109,40 @@ fn print_next(
 }
 
 /// Prints what is read of a gathered connection, each piece answered, up to its end.
-fn print_reads(
-    rt: &(impl Print + AllocGlobal),
-    door: &mut GatheringDoor<'_, MemNet, StepWatch>,
-) -> Result<()> {
-    let mut room = [0u8; 64];
-    for _ in 0..20 {
-        match door.read(&mut room) {
-            ReadAnswer::Got(count) => print!(rt; " {:?}", str::from_utf8(&room[..count])?)?,
-            ReadAnswer::End => {
-                print!(rt; " end")?;
-                return Ok(());
-            }
-            ReadAnswer::Failed => {
-                print!(rt; " failed")?;
-                return Ok(());
-            }
-        }
-        match door.write(FINE) {
-            WriteAnswer::Took(count) if count == FINE.len() => {}
-            _ => print!(rt; " not answered")?,
+fn print_reads<D: Door>(rt: &impl Print, door: &mut D) -> Result<()>
+    requires { (D.counts door.old).up ≡ true }
+    ensures { (D.counts door.new).up ≡ true }
+{
+    'reads: for _ in 0..20 {
+        if !print_read(rt, door)? {
+            return Ok(());
         }
     }
     Ok(())
+}
+
+/// Prints what is read of a gathered connection, and answers it. Whether it goes on.
+fn print_read<D: Door>(rt: &impl Print, door: &mut D) -> Result<bool>
+    requires { (D.counts door.old).up ≡ true }
+    ensures { (D.counts door.new).up ≡ true }
+{
+    let mut room = [0u8; 64];
+    match door.read(&mut room) {
+        ReadAnswer::Got(count) => print!(rt; " {:?}", str::from_utf8(&room[..count])?)?,
+        ReadAnswer::End => {
+            print!(rt; " end")?;
+            return Ok(false);
+        }
+        ReadAnswer::Failed => {
+            print!(rt; " failed")?;
+            return Ok(false);
+        }
+    }
+    match door.write(FINE) {
+        WriteAnswer::Took(count) if count == FINE.len() => {}
+        _ => print!(rt; " not answered")?,
+    }
+    Ok(true)
 }
 
 /// Prints so many gathered connections, and how long was waited the last time.
