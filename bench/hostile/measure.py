@@ -162,4 +162,5 @@ def main():
         print(f"\nThe most: {worst:.2f} s")
 
 
-main()
+if __name__ == "__main__":
+    main()
